@@ -1,0 +1,3 @@
+pub mod Meaning
+pub mod House
+pub mod HouseBounds
