@@ -1,1 +1,5 @@
 pub mod Tree
+pub mod Parse
+pub mod Verdict
+pub mod Check
+pub mod Theorems

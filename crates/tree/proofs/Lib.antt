@@ -1,0 +1,4 @@
+mod Walks
+mod Sound
+pub mod Complete
+pub mod Refusals
