@@ -1,2 +1,2 @@
-mod Stacks
+pub mod Stacks
 mod Reading

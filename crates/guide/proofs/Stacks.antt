@@ -4,14 +4,14 @@ use mathlib.Core.List.{List, [], _∷_, _++_, reverse, reverse-append}
 use mathlib.Core.Logic.{_⊎_, inl, inr}
 use Prim.Native.Nat.{ℕ, _+_, _-_, _<_, _≤_, min}
 use native.Mathlib.Omega.{arith}
-use lib.ListN.{length, getD, take, set}
+use lib.ListN.{length, getD, take, set, length-take}
 use lib.Seq.{take-all, take-length}
-use Rattle.std.proofs.shelf.Lists.{take-more, take-more-set}
+use Rattle.std.proofs.shelf.Lists.{take-more, take-more-set, length-reverse}
 use Rattle.std.proofs.shelf.Tests.{cases-lt}
 use Rattle.guide.specs.Stack.{held, newest}
 
 -- no more slots are held than there are
-held-capped : {A : Type 0} (s : List A) (n : ℕ) → held s n ≡ held s (min n (length s))
+pub held-capped : {A : Type 0} (s : List A) (n : ℕ) → held s n ≡ held s (min n (length s))
 unfolding held
 held-capped s n =
     elim (cases-lt n (length s)) [
@@ -20,6 +20,10 @@ held-capped s n =
           let e : min n (length s) ≡ length s = omega arith in
           ap reverse (take-all n s l ∙ sym (take-length s)) ∙ ap (held s) (sym e)
     ]
+
+pub held-length : {A : Type 0} (s : List A) (n : ℕ) → length (held s n) ≡ min n (length s)
+unfolding held
+held-length s n = length-reverse (take n s) ∙ length-take n s
 
 pub held-none : {A : Type 0} (s : List A) (n : ℕ) → min n (length s) ≡ 0 → held s n ≡ []
 unfolding held

@@ -1,5 +1,5 @@
 -- What a refusal says of the guide, and how many answers a verdict took.
-use mathlib.Core.Path.{_≡_, refl, sym, ap, _∙_}
+use mathlib.Core.Path.{_≡_, refl, sym, ap, _∙_, subst}
 use mathlib.Core.Logic.{_↔_}
 use mathlib.Core.Bool.{Bool, true, false}
 use mathlib.Core.List.{List, [], _∷_, _++_, append-assoc}
@@ -23,8 +23,7 @@ use Rattle.grammar.specs.declared.Part.the-variants.{Symbol, Range, Except}
 use Rattle.grammar.specs.Meaning.{Rule, Meaning, allows}
 use Rattle.tree.specs.declared.verdict.Reason.{Reason}
 use Rattle.tree.specs.declared.verdict.Reason.the-variants.{GuideFault, TooManyEvents, NotAwaited, NoSuchRule, OtherSymbol, TooDeep, ByteNotAllowed, ByteNotNext, TextLeft}
-use Rattle.tree.specs.declared.verdict.Refusal.{Refusal}
-use Rattle.tree.specs.Verdict.{Verdict, refused, taken}
+use Rattle.tree.specs.Verdict.{Verdict, refusal, refused, taken}
 use Rattle.tree.specs.Check.{State, Progress, going, over, ask, begin, entered, read, enterRule, onEnter, nextByte, onByte, onLeave, ofKind, onEvent, atEnd, atFinish, step, run, verdict}
 use Rattle.tree.specs.Theorems.{bytesIn, RefusedThere, Refusals-say-where}
 
@@ -117,15 +116,21 @@ led-counts : (s : State) (e : Event) (x : Progress) → Led s e x → Counts s x
 led-counts s e (going s′) w = w .events
 led-counts s e (over v) (why, h, f) = ap taken h
 
-pub step-counts : (g : Meaning) (D : ℕ) (s : State) (a : Answer) → Counts s (step g D s a)
+step-counts : (g : Meaning) (D : ℕ) (s : State) (a : Answer) → Counts s (step g D s a)
 step-counts g D s (Next e) = led-counts s e (onEvent g D s e) (event-led g D s e)
 step-counts g D s (Done End) = end-counts s (s .parts) (s .older) (s .text)
 step-counts g D s (Done (Fault d p)) = refl
 
+pub going-counts : (g : Meaning) (D : ℕ) (s s′ : State) (a : Answer) → going s′ ≡ step g D s a → s′ .events ≡ s .events + 1
+going-counts g D s s′ a h = subst (Counts s) (sym h) (step-counts g D s a)
+
+pub over-counts : (g : Meaning) (D : ℕ) (s : State) (v : Verdict) (a : Answer) → over v ≡ step g D s a → taken v ≡ s .events + 1
+over-counts g D s v a h = subst (Counts s) (sym h) (step-counts g D s a)
+
 -- The place of a refusal.
 refused-parts : {why why′ : Reason} {e e′ a a′ : ℕ} → refused why e a ≡ refused why′ e′ a′ → (why ≡ why′) × (e ≡ e′) × (a ≡ a′)
 refused-parts {why} {why′} {e} {e′} {a} {a′} h =
-    let r : _≡_ {A = Refusal} (record { reason = why; events = e; bytes = a }) (record { reason = why′; events = e′; bytes = a′ }) = cc in
+    let r : refusal why e a ≡ refusal why′ e′ a′ = cc in
     (ap (λ x. x .reason) r, ap (λ x. x .events) r, ap (λ x. x .bytes) r)
 
 -- the reason blames the fault in the answer, and only that

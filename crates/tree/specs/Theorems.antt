@@ -78,7 +78,10 @@ pub record RefusedThere (g : Meaning) (D : ℕ) (text : List ℕ) (told : Told) 
   pub alike : (rest′ : Told) → answer rest′ ≡ answer rest → verdict g D text (ahead before rest′) ≡ refused why events bytes
   pub faulty : (d : Defect) (p : ℕ) → (why ≡ GuideFault d p) ↔ (answer rest ≡ Done (Fault d p))
 
+-- the verdict v, if it refuses, says where
+abbrev pub RefusedWhere : Meaning → ℕ → List ℕ → Told → Verdict → Type 0
+RefusedWhere g D text told v =
+    (why : Reason) (events bytes : ℕ) → v ≡ refused why events bytes → RefusedThere g D text told why events bytes
+
 abbrev pub Refusals-say-where : Type 0
-Refusals-say-where =
-    (g : Meaning) (D : ℕ) (text : List ℕ) (told : Told) (why : Reason) (events bytes : ℕ)
-    → verdict g D text told ≡ refused why events bytes → RefusedThere g D text told why events bytes
+Refusals-say-where = (g : Meaning) (D : ℕ) (text : List ℕ) (told : Told) → RefusedWhere g D text told (verdict g D text told)

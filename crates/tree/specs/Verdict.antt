@@ -25,9 +25,12 @@ Verdict = Result Accepted Refusal
 abbrev pub accepted : ℕ → ℕ → ℕ → Verdict
 accepted rules bytes steps = Ok (record { rules = rules; bytes = bytes; steps = steps })
 
+abbrev pub refusal : Reason → ℕ → ℕ → Refusal
+refusal reason events bytes = record { reason = reason; events = events; bytes = bytes }
+
 -- refused for a reason, with the events accepted before it and the text bytes used
 abbrev pub refused : Reason → ℕ → ℕ → Verdict
-refused reason events bytes = Err (record { reason = reason; events = events; bytes = bytes })
+refused reason events bytes = Err (refusal reason events bytes)
 
 -- how many answers were taken from the guide: the one that was refused counts too
 abbrev pub taken : Verdict → ℕ

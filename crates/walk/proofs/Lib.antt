@@ -1,0 +1,3 @@
+mod Opened
+mod Turns
+mod Answered
