@@ -35,7 +35,7 @@ abbrev pub decimal : ℕ → List ℕ → Option ℕ
 decimal n [] = Some n
 decimal n (d ∷ ds) = cond (isDigit d) (decimal (10 * n + (d - 48)) ds) None
 
--- a rule number: 1 to 4 digits without a leading zero, 0 itself allowed
+-- a rule number: up to 4 digits, the first no zero unless it stands alone
 abbrev pub ruleNumber : List ℕ → Option ℕ
 ruleNumber [] = None
 ruleNumber (d ∷ []) = decimal 0 (d ∷ [])

@@ -36,7 +36,7 @@ fn decimal(digits: &[u8]) -> Option<u16>
     Some(n)
 }
 
-// A rule number: 1 to 4 digits without a leading zero, 0 itself allowed.
+// A rule number: up to 4 digits, the first no zero unless it stands alone.
 fn rule_number(digits: &[u8]) -> Option<u16>
     ensures { λ r. ⌜ r ≡ ruleNumber (now (digits .entry)) ⌝ }
 {
@@ -125,7 +125,7 @@ fn form_length(form: Form<'_>) -> usize
 }
 
 // The event of the line at an offset, and the offset behind the line's ending; None where the line is not in order.
-pub fn read_line(listing: &[u8], offset: usize) -> Option<(Event, usize)>
+pub(crate) fn read_line(listing: &[u8], offset: usize) -> Option<(Event, usize)>
     requires { ⌜ offset ≤ length (now listing) ⌝ }
     ensures { λ r. ⌜ LineRead (now (listing .entry)) offset r ⌝ }
 {

@@ -1,4 +1,4 @@
--- The two parts of an input: the text up to the first byte 10, and the listing behind it.
+-- The two parts of an input: what stands before its first byte 10 is the text, what stands behind it the listing.
 use mathlib.Core.Path.{_≡_}
 use mathlib.Core.Bool.{cond}
 use mathlib.Core.List.{List, [], _∷_}

@@ -2,7 +2,7 @@
 ghost use mathlib.Core.Path.{_≡_};
 ghost use Rattle.report.specs.Input.{Parted};
 
-// The text up to the first byte 10, and the listing behind it. Without a byte 10 all is text, and the listing is empty.
+// What stands before the first byte 10, and what stands behind it. Where there is none, the whole input is the text.
 pub fn split_input(input: &[u8]) -> (&[u8], &[u8])
     ensures { λ r. ⌜ Parted (now (input .entry)) (now (r .0)) (now (r .1)) ⌝ }
 {

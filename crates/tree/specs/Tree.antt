@@ -15,7 +15,7 @@ mutual
     no-more : Children
     _then_ : Tree → Children → Children
 
--- enter, the children's walks, leave; a leaf's walk is its byte
+-- a node is entered, its children are walked, it is left; a leaf tells its byte
 abbrev mutual
   pub walk : Tree → List Event
   walk (leaf b) = Byte b ∷ []

@@ -28,7 +28,7 @@ accepted rules bytes steps = Ok (record { rules = rules; bytes = bytes; steps = 
 abbrev pub refusal : Reason → ℕ → ℕ → Refusal
 refusal reason events bytes = record { reason = reason; events = events; bytes = bytes }
 
--- refused for a reason, with the events accepted before it and the text bytes used
+-- refused for a reason, with the counts of accepted events and used text bytes
 abbrev pub refused : Reason → ℕ → ℕ → Verdict
 refused reason events bytes = Err (refusal reason events bytes)
 

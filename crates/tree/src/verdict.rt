@@ -36,7 +36,7 @@ impl Reason {
     }
 }
 
-// A refusal: its reason, the events accepted before it, and the text bytes that they used.
+// A refusal: its reason, and how many events were accepted and text bytes used when it came.
 #[derive(Clone, Copy)]
 pub struct Refusal {
     pub reason: Reason,

@@ -1,0 +1,10 @@
+# make run   check the shipped example cues and show what became of each
+# make test  the merge gate: every proof, must-fail edit, program and test from nothing
+.PHONY: run test
+
+run:
+	@rt check cueline > /dev/null || rt check cueline
+	@for cue in examples/*.cue; do printf '%-34s %-8s ' "$$cue" "$$(head -n 1 $$cue)"; target/bin/cueline < $$cue; done
+
+test:
+	@.ci/run
