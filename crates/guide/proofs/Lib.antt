@@ -1,2 +1,4 @@
 mod Stacks
+mod Answering
 mod Reading
+mod Linking

@@ -6,7 +6,7 @@ use Prim.Native.Nat.{ℕ, _+_, _-_, _<_, _≤_, min}
 use native.Mathlib.Omega.{arith}
 use lib.ListN.{length, getD, take, set}
 use lib.Seq.{take-all, take-length}
-use Rattle.std.proofs.shelf.Lists.{take-more, take-more-set}
+use Rattle.std.proofs.shelf.Lists.{take-more, take-more-set, length-take, length-reverse}
 use Rattle.std.proofs.shelf.Tests.{cases-lt}
 use Rattle.guide.specs.Stack.{held, newest}
 
@@ -24,6 +24,10 @@ held-capped s n =
 pub held-none : {A : Type 0} (s : List A) (n : ℕ) → min n (length s) ≡ 0 → held s n ≡ []
 unfolding held
 held-none s n e = held-capped s n ∙ ap (held s) e
+
+pub held-length : {A : Type 0} (s : List A) (n : ℕ) → length (held s n) ≡ min n (length s)
+unfolding held
+held-length s n = length-reverse (take n s) ∙ length-take n s
 
 pub held-push : {A : Type 0} (s : List A) (n : ℕ) (x : A) → n < length s → held (set s n x) (n + 1) ≡ x ∷ held s n
 unfolding held
