@@ -1,0 +1,5 @@
+mod Clashes
+mod Numbers
+mod Listings
+mod Records
+mod LinkTables

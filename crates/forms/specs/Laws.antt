@@ -1,0 +1,34 @@
+-- Each tree has exactly one listing and exactly one link table.
+use mathlib.Core.Path.{_≡_}
+use mathlib.Core.List.{List}
+use Prim.Native.Nat.{ℕ, _<_}
+use Rattle.std.specs.shelf.Lists.{All}
+use Rattle.guide.specs.declared.Finish.the-variants.{End}
+use Rattle.guide.specs.LinkTable.{linkTable}
+use Rattle.guide.specs.Listing.{listing}
+use Rattle.guide.specs.Told.{Told, tells}
+use Rattle.tree.specs.Tree.{Tree, walk}
+use Rattle.forms.specs.Writable.{Writable}
+use Rattle.forms.specs.Writing.{listingOf, linkTableOf}
+
+-- bytes that, read in a form, mean the tree's walk and then the end
+pub record Means (form : List ℕ → Told) (t : Tree) (bs : List ℕ) : Type 0 where
+  pub bytes : All (λ b. b < 256) bs
+  pub walked : form bs ≡ tells (walk t) End
+
+-- bs, and no other bytes
+pub record Alone (form : List ℕ → Told) (t : Tree) (bs : List ℕ) : Type 0 where
+  pub means : Means form t bs
+  pub no-other : (cs : List ℕ) → Means form t cs → cs ≡ bs
+
+abbrev pub One-listing-for-each-tree : Type 0
+One-listing-for-each-tree = (t : Tree) → Writable t → (bs : List ℕ) × Alone listing t bs
+
+abbrev pub One-link-table-for-each-tree : Type 0
+One-link-table-for-each-tree = (t : Tree) → Writable t → (bs : List ℕ) × Alone linkTable t bs
+
+abbrev pub Listing-as-written : Type 0
+Listing-as-written = (t : Tree) → Writable t → Alone listing t (listingOf t)
+
+abbrev pub Link-table-as-written : Type 0
+Link-table-as-written = (t : Tree) → Writable t → Alone linkTable t (linkTableOf t)
