@@ -3,3 +3,4 @@ mod Numbers
 mod Listings
 mod Records
 mod LinkTables
+mod Places

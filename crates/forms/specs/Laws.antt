@@ -1,12 +1,13 @@
--- Each tree has exactly one listing and exactly one link table.
+-- Each tree has exactly one listing and exactly one link table; and where the faults of a link table stand.
 use mathlib.Core.Path.{_≡_}
 use mathlib.Core.List.{List}
-use Prim.Native.Nat.{ℕ, _<_}
+use Prim.Native.Nat.{ℕ, _+_, _*_, _<_}
 use Rattle.std.specs.shelf.Lists.{All}
-use Rattle.guide.specs.declared.Finish.the-variants.{End}
+use Rattle.guide.specs.declared.Event.the-variants.{Enter, Byte, Leave}
+use Rattle.guide.specs.declared.Finish.the-variants.{End, Fault}
 use Rattle.guide.specs.LinkTable.{linkTable}
 use Rattle.guide.specs.Listing.{listing}
-use Rattle.guide.specs.Told.{Told, tells}
+use Rattle.guide.specs.Told.{Told, finally, _and_, tells}
 use Rattle.tree.specs.Tree.{Tree, walk}
 use Rattle.forms.specs.Writable.{Writable}
 use Rattle.forms.specs.Writing.{listingOf, linkTableOf}
@@ -32,3 +33,14 @@ Listing-as-written = (t : Tree) → Writable t → Alone listing t (listingOf t)
 
 abbrev pub Link-table-as-written : Type 0
 Link-table-as-written = (t : Tree) → Writable t → Alone linkTable t (linkTableOf t)
+
+-- where n records were told before, a fault stands at eight times the records told: each enter and each byte is a record's
+abbrev pub PlacedAfter : ℕ → Told → Type 0
+PlacedAfter n (finally End) = Unit {0}
+PlacedAfter n (finally (Fault d place)) = place ≡ 8 * n
+PlacedAfter n (Enter r and g) = PlacedAfter (n + 1) g
+PlacedAfter n (Byte b and g) = PlacedAfter (n + 1) g
+PlacedAfter n (Leave and g) = PlacedAfter n g
+
+abbrev pub Fault-place-counts-records : Type 0
+Fault-place-counts-records = (bs : List ℕ) → PlacedAfter 0 (linkTable bs)

@@ -50,9 +50,9 @@ reading n (Rule r child sibling) opened go = ask (ltb (length opened) 256) TooMa
 reading n (Leaf b sibling) opened go = Byte b and go sibling opened
 reading n Malformed opened go = faultAt BadRecord n
 
--- a link is followed, where n records were read and rs are unread; `opened` has the siblings of the open nodes, the newest first.
--- Without a link (0) the newest open node is left, and its sibling followed; with no node open the walk ends.
--- A link names the next unread record.
+-- what is told from a link on, where n records were read and rs are unread; `opened` has the siblings of the open nodes, the newest first.
+-- Link 0 leads nowhere: a leave is told of the newest open node, and its sibling is the next link; with none open the walk is over.
+-- Any other link leads to the next unread record, or it is wrong.
 abbrev pub follow : ℕ → List Record → ℕ → List ℕ → Told
 follow n rs zero (sibling ∷ opened) = Leave and follow n rs sibling opened
 follow n [] zero [] = finally End
