@@ -14,7 +14,7 @@ use Rattle.forms.specs.Writable.{nodes}
 abbrev pub hexDigitOf : ℕ → ℕ
 hexDigitOf d = cond (ltb d 10) (48 + d) (87 + d)
 
--- the line of an event, without its ending: "(" is 40, "=" is 61, ")" is 41
+-- the line of an event, without its ending: "(" is 40, "=" is 61, ")" is 41; `decimal` has no leading zeros
 abbrev pub lineOf : Event → List ℕ
 lineOf (Enter r) = 40 ∷ decimal r
 lineOf (Byte b) = 61 ∷ hexDigitOf (b / 16) ∷ hexDigitOf (b % 16) ∷ []

@@ -125,7 +125,7 @@ fn form_length(form: Form<'_>) -> usize
 }
 
 // The event of the line at an offset, and the offset behind the line's ending; None where the line is not in order.
-pub fn read_line(listing: &[u8], offset: usize) -> Option<(Event, usize)>
+pub(crate) fn read_line(listing: &[u8], offset: usize) -> Option<(Event, usize)>
     requires { ⌜ offset ≤ length (now listing) ⌝ }
     ensures { λ r. ⌜ LineRead (now (listing .entry)) offset r ⌝ }
 {

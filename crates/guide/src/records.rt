@@ -44,7 +44,7 @@ fn record_of(kind: u8, zero: u8, value: u16, child: u16, sibling: u16) -> Record
 }
 
 // The first record of a table and the rest of the table; or no record, and the table.
-pub fn split_record(table: &[u8]) -> (Option<Record>, &[u8])
+pub(crate) fn split_record(table: &[u8]) -> (Option<Record>, &[u8])
     ensures { λ r. ⌜ Split (now (table .entry)) (r .0) (now (r .1)) ⌝ }
 {
     let [kind, zero, v1, v0, c1, c0, s1, s0, rest @ ..] = table else {

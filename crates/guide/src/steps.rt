@@ -35,7 +35,7 @@ pub enum Step {
 const MOST_BYTES: usize = 64_000;
 
 // The phase in which the reader of a table begins, and the bytes that it has to read.
-pub fn first_phase(bytes: &[u8]) -> (Phase, &[u8])
+pub(crate) fn first_phase(bytes: &[u8]) -> (Phase, &[u8])
     ensures { λ r. ⌜ Begun (now (bytes .entry)) (r .0) (now (r .1)) ⌝ }
 {
     if bytes.len() % 8 != 0 || bytes.len() > MOST_BYTES {
@@ -87,7 +87,7 @@ fn fault(defect: Defect, place: usize) -> Finish
 }
 
 // The next step, and the part of the table behind the next record.
-pub fn next_step(phase: Phase, unread: &[u8], link: u16, read: usize) -> (Step, &[u8])
+pub(crate) fn next_step(phase: Phase, unread: &[u8], link: u16, read: usize) -> (Step, &[u8])
     requires { ⌜ 8 * read ≤ 64000 ⌝ }
     ensures { λ r. ⌜ Decided phase read (now (unread .entry)) link (r .0) (now (r .1)) ⌝ }
 {

@@ -8,7 +8,7 @@ use guide::Guide;
 use std::test::*;
 
 // These events, one by one.
-pub fn tells<G: Guide>(guide: &mut G, events: &[Event]) -> Result<(), Fail> {
+pub(crate) fn tells<G: Guide>(guide: &mut G, events: &[Event]) -> Result<(), Fail> {
     for event in events {
         check(guide.next() == Answer::Next(*event))?;
     }
@@ -16,7 +16,7 @@ pub fn tells<G: Guide>(guide: &mut G, events: &[Event]) -> Result<(), Fail> {
 }
 
 // The same event so many times.
-pub fn tells_often<G: Guide>(guide: &mut G, event: Event, times: usize) -> Result<(), Fail> {
+pub(crate) fn tells_often<G: Guide>(guide: &mut G, event: Event, times: usize) -> Result<(), Fail> {
     for _ in 0..times {
         check(guide.next() == Answer::Next(event))?;
     }
@@ -31,11 +31,11 @@ fn finishes<G: Guide>(guide: &mut G, finish: Finish) -> Result<(), Fail> {
     Ok(())
 }
 
-pub fn ends<G: Guide>(guide: &mut G) -> Result<(), Fail> {
+pub(crate) fn ends<G: Guide>(guide: &mut G) -> Result<(), Fail> {
     finishes(guide, Finish::End)
 }
 
-pub fn faults<G: Guide>(guide: &mut G, defect: Defect, place: usize) -> Result<(), Fail> {
+pub(crate) fn faults<G: Guide>(guide: &mut G, defect: Defect, place: usize) -> Result<(), Fail> {
     finishes(guide, Finish::Fault { defect, place })
 }
 

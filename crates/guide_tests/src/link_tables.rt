@@ -1,3 +1,4 @@
+// Link tables: every fault and its place, the order of the questions, and both sides of each limit.
 use crate::expect::ends;
 use crate::expect::faults;
 use crate::expect::tells;

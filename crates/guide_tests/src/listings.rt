@@ -1,3 +1,4 @@
+// Listings: the three forms, every way to miss them, and the longest listing.
 use crate::expect::ends;
 use crate::expect::faults;
 use crate::expect::tells;

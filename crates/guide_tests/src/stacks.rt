@@ -1,3 +1,4 @@
+// The stack: the newest entry, none, and no room.
 use guide::stack::pop;
 use guide::stack::push;
 use guide::stack::top;
