@@ -1,2 +1,4 @@
 pub mod Stacks
+mod Answering
 mod Reading
+mod Linking

@@ -17,11 +17,11 @@ use Rattle.std.specs.declared.option.Option.the-variants.{Some, None}
 use Rattle.guide.specs.declared.Answer.the-variants.{Next, Done}
 use Rattle.guide.specs.declared.Defect.the-variants.{BadLine}
 use Rattle.guide.specs.declared.Event.{Event}
-use Rattle.guide.specs.declared.Finish.{Finish}
 use Rattle.guide.specs.declared.Finish.the-variants.{End, Fault}
 use Rattle.guide.specs.Listing.{unended, ended, longer, lines, isDigit, decimal, lineEvent, telling, fromLines, listingFrom}
 use Rattle.guide.specs.Lines.{LineRead}
 use Rattle.guide.specs.Told.{Told, finally, _and_, answer, behind}
+use Rattle.guide.proofs.Answering.{done, next-one}
 
 -- Digits.
 pub digit-no : (n : ℕ) (ds : List ℕ) (i : ℕ) → i < length ds → isDigit (getD ds i 0) ≡ false → decimal n (drop i ds) ≡ None
@@ -138,14 +138,6 @@ module _ (bs : List ℕ) (at : ℕ) where
     in-form w e = let n : length Rest ≡ length bs - at = ap length (take-rest bs at) ∙ length-drop at bs in rw e (omega arith, first-line-is)
 
 -- Answers.
--- at the finish the answer is the finish, and the guide stays
-done : (g : Told) (f : Finish) → g ≡ finally f → (Done f ≡ answer g) × (g ≡ behind g)
-done g f e = rw e (refl, refl)
-
--- at an event the answer is the event, and the guide stands behind it
-next-one : (g k : Told) (e : Event) → g ≡ e and k → (Next e ≡ answer g) × (k ≡ behind g)
-next-one g k e h = rw h (refl, refl)
-
 module _ (bs : List ℕ) (at : ℕ) (short : length bs ≤ 64000) where
   short-listing : (k : ℕ) → listingFrom bs k ≡ fromLines k (lines (drop k bs))
   short-listing k = cond-true _ (fromLines k (lines (drop k bs))) _ (le-leb (length bs) 64000 short)

@@ -2,7 +2,7 @@
 use mathlib.Core.List.{List, [], _∷_}
 use Prim.Native.Nat.{ℕ, zero, suc, _<_, _≤_}
 use Rattle.guide.specs.declared.Defect.{Defect}
-use Rattle.guide.specs.declared.Defect.the-variants.{ListingTooLong, BadLine}
+use Rattle.guide.specs.declared.Defect.the-variants.{ListingTooLong, BadLine, TableLength, BadRecord, BadLink, TooManyOpen, RecordsUnread}
 use Rattle.guide.specs.declared.Event.{Event}
 use Rattle.guide.specs.declared.Event.the-variants.{Enter, Byte, Leave}
 use Rattle.guide.specs.declared.Finish.{Finish}
@@ -53,3 +53,8 @@ InRange (e and g) = EventInRange e × InRange g
 abbrev pub defectNumber : Defect → ℕ
 defectNumber ListingTooLong = 31
 defectNumber BadLine = 32
+defectNumber TableLength = 41
+defectNumber BadRecord = 42
+defectNumber BadLink = 43
+defectNumber TooManyOpen = 44
+defectNumber RecordsUnread = 45

@@ -3,8 +3,11 @@ ghost use mathlib.Core.Path.{_≡_};
 ghost use Rattle.guide.specs.Told.{Told, InRange, answer, behind, defectNumber};
 
 mod lines;
+pub mod link_table;
 pub mod listing;
+mod records;
 pub mod stack;
+mod steps;
 
 // One event of a walk: a rule node is entered, a leaf's byte is told, or the newest open node is left.
 #[derive(Clone, Copy, PartialEq, Eq)]
@@ -19,6 +22,11 @@ pub enum Event {
 pub enum Defect {
     ListingTooLong,
     BadLine,
+    TableLength,
+    BadRecord,
+    BadLink,
+    TooManyOpen,
+    RecordsUnread,
 }
 
 impl Defect {
@@ -29,6 +37,11 @@ impl Defect {
         match self {
             Defect::ListingTooLong => 31,
             Defect::BadLine => 32,
+            Defect::TableLength => 41,
+            Defect::BadRecord => 42,
+            Defect::BadLink => 43,
+            Defect::TooManyOpen => 44,
+            Defect::RecordsUnread => 45,
         }
     }
 }

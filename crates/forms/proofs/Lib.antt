@@ -1,0 +1,6 @@
+mod Clashes
+mod Numbers
+mod Listings
+mod Records
+mod LinkTables
+mod Places

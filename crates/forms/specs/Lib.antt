@@ -1,0 +1,3 @@
+pub mod Writable
+pub mod Writing
+pub mod Laws
