@@ -113,7 +113,7 @@ at-range : (t a b c : ℕ) (first rest : Bool) → eqb t 1 ≡ false → eqb t 2
 at-range t a b c first rest h k e =
     let u = and-parts (leb a b) (isZero c) (sym (cond-false (eqb t 1) first _ h ∙ cond-true (eqb t 2) _ rest k) ∙ e) in leb-true a b (u .0)
 
-part-lawful : (n : ℕ) (slot : List ℕ) → lawfulPart n slot ≡ true → LawfulPart n (partIn slot)
+pub part-lawful : (n : ℕ) (slot : List ℕ) → lawfulPart n slot ≡ true → LawfulPart n (partIn slot)
 part-lawful n slot e =
     let t = byteAt slot 0 in
     cond-both (eqb t 1) _ _ (LawfulPart n)

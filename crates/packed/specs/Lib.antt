@@ -2,3 +2,5 @@ pub mod Pieces
 pub mod Format
 pub mod Check
 pub mod Bounds
+pub mod Encoding
+pub mod Laws

@@ -15,6 +15,7 @@ use grammar::Part;
 
 pub mod check;
 pub mod fault;
+pub mod laws;
 mod layout;
 
 use check::check;
