@@ -1,6 +1,6 @@
 -- The laws of the spaced grammar.
 use mathlib.Core.Path.{_≡_, refl, sym, ap, subst, _∙_}
-use mathlib.Core.Bool.{true, false, not}
+use mathlib.Core.Bool.{Bool, true, false, not}
 use mathlib.Core.Logic.{⊎-elim}
 use Prim.Native.Nat.{ℕ}
 use native.Mathlib.Omega.{arith}
@@ -58,10 +58,14 @@ kept-whole : (w : ℕ) (r : Rule) → (GetsBlanks r → ⊥) → spread w r ≡ 
 kept-whole w r kept =
     cond-both (isSpread r) (ruled (r .left) Tight (intersperse (Symbol w) (r .parts))) r (λ s. s ≡ r) (λ e. absurd (kept (spread-gets r e))) (λ _. refl)
 
--- what holds of the grammar with blanks and of the grammar below holds of the spaced grammar
+-- with room or without it
 either-way : (m : Meaning) (P : Meaning → Type 0) → (hasRoom m ≡ true → P (spacedMeaning m)) → P m → P (spacedMeaning m)
 either-way m P room none =
-    cond-both (hasRoom m) (withBlanks m) m (λ g. (hasRoom m ≡ true → P (spacedMeaning m)) → P m → P g) (λ e. λ r _. subst P (grind (arith, tells)) (r e)) (λ _. λ _ p. p) room none
+    by (hasRoom m) refl
+  where
+    by : (b : Bool) → hasRoom m ≡ b → P (spacedMeaning m)
+    by true e = room e
+    by false e = subst P (sym (cond-false (hasRoom m) (withBlanks m) m e)) none
 
 pub others-as-below : Others-as-below
 others-as-below m = record {

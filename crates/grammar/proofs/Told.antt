@@ -32,17 +32,19 @@ pub record SpreadAt (m : Meaning) (n count : ℕ) : Type 0 where
   pub count-is : count ≡ length (below .parts)
   pub told-as : spacedMeaning m .rule n ≡ Some (ruled (below .left) Tight (intersperse (Symbol (blankSymbol m)) (below .parts)))
 
-room-of : (m : Meaning) (n count : ℕ) → Spread count ≡ toldAt m n → (hasRoom m ≡ true) × (n < m .rules) × (Spread count ≡ toldBy (spreadCount (m .rule n)))
+room-of : (m : Meaning) (n count : ℕ) → Spread count ≡ toldAt m n
+    → (hasRoom m ≡ true) × (n < m .rules) × (Spread count ≡ toldBy (spreadCount (m .rule n)))
 room-of m n count e = grind (arith, tells)
 
-spread-of : (w count : ℕ) (o : Option Rule) → Spread count ≡ toldBy (spreadCount o) → (r : Rule) × (o ≡ Some r) × (isSpread r ≡ true) × (count ≡ length (r .parts))
-spread-of w count None e = grind arith
-spread-of w count (Some r) e = (r, refl, grind (arith, tells), grind (arith, tells))
+spread-of : (count : ℕ) (o : Option Rule) → Spread count ≡ toldBy (spreadCount o)
+    → (r : Rule) × (o ≡ Some r) × (isSpread r ≡ true) × (count ≡ length (r .parts))
+spread-of count None e = grind arith
+spread-of count (Some r) e = (r, refl, grind (arith, tells), grind (arith, tells))
 
 pub told-spread : (m : Meaning) (n count : ℕ) → Spread count ≡ toldAt m n → SpreadAt m n count
 told-spread m n count e =
     let a = room-of m n count e in
-    let b = spread-of (m .symbols) count (m .rule n) (a .2) in
+    let b = spread-of count (m .rule n) (a .2) in
     record {
       below = b .0;
       is-below = b .1;

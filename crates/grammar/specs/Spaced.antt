@@ -21,14 +21,17 @@ abbrev pub blankBytes : List ℕ
 blankBytes = 32 ∷ []
 
 -- the rules of the blank symbol w: no blank, or a blank and then w again
+abbrev pub blankRule : ℕ → ℕ → Rule
+blankRule w b = ruled w Tight (Range b b ∷ Symbol w ∷ [])
+
 abbrev pub blankRules : ℕ → List Rule
-blankRules w = ruled w Tight [] ∷ map (λ b. ruled w Tight (Range b b ∷ Symbol w ∷ [])) blankBytes
+blankRules w = ruled w Tight [] ∷ map (blankRule w) blankBytes
 
 -- the blank symbol is the first number that the grammar below leaves over
 abbrev pub blankSymbol : Meaning → ℕ
 blankSymbol m = m .symbols
 
--- may the blank symbol and its rules be added? (over at most 1,022 rules and 255 symbols)
+-- does the grammar stay within the bounds with the blank symbol and its rules? Then it has 1,022 rules or fewer, and 255 symbols or fewer
 abbrev pub hasRoom : Meaning → Bool
 hasRoom m = leb (m .rules) (1024 - length (blankRules (blankSymbol m))) && leb (m .symbols) (256 - 1)
 

@@ -1,7 +1,7 @@
 -- A spaced grammar keeps the bounds. (A ghost member cites it, so it stands here and not in proofs/.)
 use mathlib.Core.Path.{_≡_, refl}
 use mathlib.Core.Bool.{true, _&&_}
-use mathlib.Core.List.{List, [], _∷_}
+use mathlib.Core.List.{List, [], _∷_, map}
 use Prim.Native.Nat.{ℕ, zero, suc, _+_, _-_, _≤_}
 use native.Mathlib.Omega.{arith}
 use lib.Dec.{ltb, leb}
@@ -15,7 +15,7 @@ use Rattle.std.proofs.shelf.Tests.{cond-both, and-parts, leb-true, ltb-true}
 use Rattle.std.specs.declared.option.Option.{Option}
 use Rattle.std.specs.declared.option.Option.the-variants.{Some, None}
 use Rattle.grammar.specs.Meaning.{Rule, Meaning, LawfulPart, LawfulRule, Bounded}
-use Rattle.grammar.specs.Spaced.{blankRules, hasRoom, intersperse, isLoose, isSpread, spread, withBlanks, spacedMeaning}
+use Rattle.grammar.specs.Spaced.{blankBytes, blankRule, blankRules, hasRoom, intersperse, isLoose, isSpread, spread, withBlanks, spacedMeaning}
 use Rattle.grammar.specs.declared.Part.{Part}
 use Rattle.grammar.specs.declared.Part.the-variants.{Symbol, Range, Except}
 
@@ -63,10 +63,14 @@ below-lawful : (w : ℕ) (o : Option Rule) → Cases o (Unit {0}) (LawfulRule w)
 below-lawful w None h = tt
 below-lawful w (Some r) h = spread-lawful w r h
 
+bytes-lawful : (w : ℕ) (bs : List ℕ) (n : ℕ) → Cases (nth (map (blankRule w) bs) n) (Unit {0}) (LawfulRule (w + 1))
+bytes-lawful w [] n = tt
+bytes-lawful w (b ∷ bs) zero = record { left-below = omega arith; few-parts = omega arith; each-part = (omega arith, (omega arith, tt)) }
+bytes-lawful w (b ∷ bs) (suc n) = bytes-lawful w bs n
+
 blank-lawful : (w n : ℕ) → Cases (nth (blankRules w) n) (Unit {0}) (LawfulRule (w + 1))
 blank-lawful w zero = record { left-below = omega arith; few-parts = omega arith; each-part = tt }
-blank-lawful w (suc zero) = record { left-below = omega arith; few-parts = omega arith; each-part = (omega arith, (omega arith, tt)) }
-blank-lawful w (suc (suc n)) = tt
+blank-lawful w (suc n) = bytes-lawful w blankBytes n
 
 module _ (m : Meaning) (b : Bounded m) (room : hasRoom m ≡ true) where
   room-parts : (m .rules ≤ 1024 - length (blankRules 0)) × (m .symbols ≤ 255)

@@ -13,6 +13,8 @@ const NUM: u16 = 2;
 
 const REST: u16 = 3;
 
+const SYMBOLS: u16 = 4;
+
 #[derive(Clone, Copy)]
 pub struct House;
 
@@ -26,7 +28,7 @@ pub impl Grammar for House as HouseGrammar {
     }
 
     fn symbols(&self) -> u16 {
-        4
+        SYMBOLS
     }
 
     fn rules(&self) -> u16 {

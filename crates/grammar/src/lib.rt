@@ -47,7 +47,7 @@ impl Part {
 }
 
 // A grammar by its meaning. Whoever builds one shows that each answer is the meaning's, and that the meaning keeps the bounds.
-// No question changes a grammar. A rule number at a gap or past the last rule is answered None, and so is a part past the last.
+// No question changes a grammar. None answers a question about a gap, about a number past the last rule, or about a part past the last.
 pub trait Grammar {
     ghost meaning: { Self → Meaning };
 
