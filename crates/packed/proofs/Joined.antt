@@ -51,10 +51,9 @@ module _ {X Y : Type 0} (w : ℕ) (f : Y → List X) where
   pub length-joined : (ys : List Y) → All (λ y. length (f y) ≡ w) ys → length (joined (map f ys)) ≡ w * length ys
   length-joined [] a = sym (mul-zero w)
   length-joined (y ∷ ys) a =
-      length-append (f y) (joined (map f ys)) ∙ sum (length (f y)) (length (joined (map f ys))) w (w * length ys) (w * suc (length ys)) (a .0) (length-joined ys (a .1)) (mul-suc w (length ys))
-    where
-      sum : (a b c d e : ℕ) → a ≡ c → b ≡ d → e ≡ d + c → a + b ≡ e
-      sum a b c d e p q r = omega arith
+      let rest = length-joined ys (a .1) in
+      let more = mul-suc w (length ys) in
+      length-append (f y) (joined (map f ys)) ∙ omega (arith, a .0)
 
 pub mapped-back : {X Y : Type 0} (f : X → Y) (g : Y → X) (xs : List X) → All (λ x. g (f x) ≡ x) xs → map g (map f xs) ≡ xs
 mapped-back f g [] a = refl

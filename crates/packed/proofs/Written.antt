@@ -7,7 +7,7 @@ use native.Mathlib.Omega.{arith}
 use lib.Dec.{ltb, leb, eqb}
 use lib.ListN.{length, getD, replicate, drop, length-drop}
 use Rattle.std.specs.shelf.Lists.{All}
-use Rattle.std.proofs.shelf.Elements.{all-drop, all-map, all-weaker}
+use Rattle.std.proofs.shelf.Elements.{all-drop, all-map}
 use Rattle.std.proofs.shelf.Lists.{drop-all, length-map}
 use Rattle.std.proofs.shelf.Tests.{cond-both, and-parts, eqb-true}
 use Rattle.grammar.specs.Meaning.{LawfulPart}
@@ -35,6 +35,10 @@ low a b h = omega arith
 all-with : {X : Type 0} (P Q R : X → Type 0) → ((x : X) → P x → Q x → R x) → (xs : List X) → All P xs → All Q xs → All R xs
 all-with P Q R f [] p q = tt
 all-with P Q R f (x ∷ xs) p q = (f x (p .0) (q .0), all-with P Q R f xs (p .1) (q .1))
+
+-- and three
+all-three : {X : Type 0} (P Q R S : X → Type 0) → ((x : X) → P x → Q x → R x → S x) → (xs : List X) → All P xs → All Q xs → All R xs → All S xs
+all-three P Q R S f xs p q r = all-with P (λ x. Q x × R x) S (λ x a b. f x a (b .0) (b .1)) xs p (all-with Q R (λ x. Q x × R x) (λ x a b. (a, b)) xs q r)
 
 -- a part by its four bytes
 by-kind : (n t a b c : ℕ) (one two : Bool) → eqb t 1 ≡ one → eqb t 2 ≡ two → c < 256
@@ -95,10 +99,9 @@ module _ (n : ℕ) (row : List ℕ) (whole : length row ≡ 64) (bytes : All IsB
 
   parts-written : joined (map partBytes (map partIn (slots row))) ≡ joined (slots row)
   parts-written =
-      ap joined (mapped-back partIn partBytes (slots row)
-      (all-with (λ s. length s ≡ 4) (λ s. All IsByte s × (lawfulPart n s ≡ true)) (λ s. partBytes (partIn s) ≡ s)
-      (λ s four b. part-written n s four (b .0) (b .1)) (slots row) slots-whole
-      (all-with (All IsByte) (λ s. lawfulPart n s ≡ true) (λ s. All IsByte s × (lawfulPart n s ≡ true)) (λ s b l. (b, l)) (slots row) slots-bytes slots-lawful)))
+      let each = all-three (λ s. length s ≡ 4) (All IsByte) (λ s. lawfulPart n s ≡ true) (λ s. partBytes (partIn s) ≡ s)
+      (part-written n) (slots row) slots-whole slots-bytes slots-lawful in
+      ap joined (mapped-back partIn partBytes (slots row) each)
 
   padding-written : replicate (60 - 4 * partCount row) 0 ≡ padding row
   padding-written = zeros-are (padding row) (60 - 4 * partCount row) (simp (length-drop, length-drop) (omega (arith, h .few-parts))) (h .rest-zero)
@@ -117,31 +120,36 @@ module _ (n : ℕ) (row : List ℕ) (whole : length row ≡ 64) (bytes : All IsB
         (all-with (All IsByte) (λ s. lawfulPart n s ≡ true) (λ s. FitsPart n (partIn s)) (part-fits n) (slots row) slots-bytes slots-lawful);
   }
 
--- a row of a lawful table is written again, and its rule fits
-pub record Again (n : ℕ) (row : List ℕ) : Type 0 where
-  pub written : rowBytes (ruleIn row) ≡ row
-  pub fits : FitsRule n (ruleIn row)
-
 module _ (bs : List ℕ) (bytes : All IsByte bs) (h : LawfulTable bs) where
   rule-count : length (map ruleIn (rows bs)) ≡ ruleCount bs
   rule-count = length-map (rows bs) ruleIn ∙ length-pieces 64 (ruleCount bs) (drop 8 bs)
 
-  each-again : All (Again (symbolCount bs)) (rows bs)
-  each-again =
-      let n = symbolCount bs in
+  rows-whole : All (λ row. length row ≡ 64) (rows bs)
+  rows-whole =
       let behind : 64 * ruleCount bs ≤ length (drop 8 bs) = simp length-drop (omega (arith, h .whole-rows)) in
-      all-with (λ row. length row ≡ 64) (λ row. All IsByte row × LawfulRow n row) (Again n)
-      (λ row whole b. record { written = row-written n row whole (b .0) (b .1); fits = row-fits n row whole (b .0) (b .1) }) (rows bs)
-      (pieces-whole 64 (ruleCount bs) (drop 8 bs) behind)
-      (all-with (All IsByte) (LawfulRow n) (λ row. All IsByte row × LawfulRow n row) (λ row b l. (b, l)) (rows bs)
-      (all-pieces IsByte 64 (ruleCount bs) (drop 8 bs) (all-drop IsByte 8 bs bytes)) (h .each-row))
+      pieces-whole 64 (ruleCount bs) (drop 8 bs) behind
 
-  rows-written : joined (map rowBytes (map ruleIn (rows bs))) ≡ drop 8 bs
+  rows-bytes : All (All IsByte) (rows bs)
+  rows-bytes = all-pieces IsByte 64 (ruleCount bs) (drop 8 bs) (all-drop IsByte 8 bs bytes)
+
+  rows-written : map rowBytes (map ruleIn (rows bs)) ≡ rows bs
   rows-written =
-      let none : drop (64 * ruleCount bs) (drop 8 bs) ≡ [] = drop-all (64 * ruleCount bs) (drop 8 bs) (simp length-drop (omega (arith, h .whole-rows))) in
-      ap joined (mapped-back ruleIn rowBytes (rows bs) (all-weaker (Again (symbolCount bs)) (λ row. rowBytes (ruleIn row) ≡ row) (λ row a. a .written) (rows bs) each-again))
+      mapped-back ruleIn rowBytes (rows bs)
+      (all-three (λ row. length row ≡ 64) (All IsByte) (LawfulRow (symbolCount bs)) (λ row. rowBytes (ruleIn row) ≡ row)
+      (row-written (symbolCount bs)) (rows bs) rows-whole rows-bytes (h .each-row))
+
+  rows-fit : All (FitsRule (symbolCount bs)) (map ruleIn (rows bs))
+  rows-fit =
+      all-map (FitsRule (symbolCount bs)) ruleIn (rows bs)
+      (all-three (λ row. length row ≡ 64) (All IsByte) (LawfulRow (symbolCount bs)) (λ row. FitsRule (symbolCount bs) (ruleIn row))
+      (row-fits (symbolCount bs)) (rows bs) rows-whole rows-bytes (h .each-row))
+
+  behind-header : joined (map rowBytes (map ruleIn (rows bs))) ≡ drop 8 bs
+  behind-header =
+      let size : length (drop 8 bs) ≤ 64 * ruleCount bs = simp length-drop (omega (arith, h .whole-rows)) in
+      ap joined rows-written
       ∙ (sym (append-nil (joined (rows bs)))
-      ∙ (ap (λ end. joined (rows bs) ++ end) (sym none) ∙ joined-pieces 64 (ruleCount bs) (drop 8 bs)))
+      ∙ (ap (λ end. joined (rows bs) ++ end) (sym (drop-all (64 * ruleCount bs) (drop 8 bs) size)) ∙ joined-pieces 64 (ruleCount bs) (drop 8 bs)))
 
   pub table-written : tableOf (listedIn bs) ≡ bs
   table-written =
@@ -157,7 +165,7 @@ module _ (bs : List ℕ) (bytes : All IsByte bs) (h : LawfulTable bs) where
         low (byteAt bs 2) (byteAt bs 3) (below 3),
         high (byteAt bs 4) (byteAt bs 5) (below 5),
         low (byteAt bs 4) (byteAt bs 5) (below 5),
-        rows-written,
+        behind-header,
       )
       (rw (six, seven) at all)
 
@@ -167,6 +175,5 @@ module _ (bs : List ℕ) (bytes : All IsByte bs) (h : LawfulTable bs) where
     few-symbols = h .few-symbols;
     start-below = h .start-below;
     few-rules = omega (arith, rule-count, h .few-rules);
-    each-rule = all-map (FitsRule (symbolCount bs)) ruleIn (rows bs)
-        (all-weaker (Again (symbolCount bs)) (λ row. FitsRule (symbolCount bs) (ruleIn row)) (λ row a. a .fits) (rows bs) each-again);
+    each-rule = rows-fit;
   }

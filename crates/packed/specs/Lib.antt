@@ -4,3 +4,4 @@ pub mod Check
 pub mod Bounds
 pub mod Encoding
 pub mod Laws
+pub mod HouseTable

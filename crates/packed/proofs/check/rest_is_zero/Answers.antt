@@ -6,10 +6,16 @@ use Rattle.packed.proofs.check.rest_is_zero.Needs as need
 
 pub returns-then-byte-ne0 : need.returns-then-byte-ne0
 returns-then-byte-ne0 c =
-    sym (ap (every isZero) (sym (c .tail-rest .ensures)) ∙ every-stop isZero _ (c .loop-byte .byte-index) (c .loop-byte .inv) 0 (c .loop-byte-test .taken) (ne-eqb _ 0 (c .if-byte-ne0 .taken)))
+    let rest = ap (every isZero) (sym (c .tail-rest .ensures)) in
+    let here = ne-eqb _ 0 (c .if-byte-ne0 .taken) in
+    sym (rest ∙ every-stop isZero _ (c .loop-byte .byte-index) (c .loop-byte .inv) 0 (c .loop-byte-test .taken) here)
 
 pub loop-byte-again : need.loop-byte-again
-loop-byte-again c = every-more isZero _ (c .loop-byte .byte-index) (c .loop-byte .inv) 0 (c .loop-byte-test .taken) (eq-eqb _ 0 (c .if-byte-ne0 .left))
+loop-byte-again c =
+    let here = eq-eqb _ 0 (c .if-byte-ne0 .left) in
+    every-more isZero _ (c .loop-byte .byte-index) (c .loop-byte .inv) 0 (c .loop-byte-test .taken) here
 
 pub returns : need.returns
-returns c = sym (ap (every isZero) (sym (c .tail-rest .ensures)) ∙ every-end isZero _ (c .loop-byte .byte-index) (c .loop-byte .inv) (c .loop-byte-test .left))
+returns c =
+    let rest = ap (every isZero) (sym (c .tail-rest .ensures)) in
+    sym (rest ∙ every-end isZero _ (c .loop-byte .byte-index) (c .loop-byte .inv) (c .loop-byte-test .left))
