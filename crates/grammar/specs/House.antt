@@ -1,15 +1,9 @@
 -- The house grammar. Its symbols: 0 Cue (the start), 1 Set, 2 Num, 3 Rest.
 use mathlib.Core.List.{List, [], _∷_}
-use Prim.Native.Nat.{ℕ}
 use Rattle.std.specs.shelf.Maps.{nth}
-use Rattle.grammar.specs.Meaning.{Rule, Meaning}
-use Rattle.grammar.specs.declared.Mark.{Mark}
+use Rattle.grammar.specs.Meaning.{Rule, Meaning, ruled}
 use Rattle.grammar.specs.declared.Mark.the-variants.{Loose, Tight}
-use Rattle.grammar.specs.declared.Part.{Part}
 use Rattle.grammar.specs.declared.Part.the-variants.{Symbol, Range, Except}
-
-abbrev pub ruled : ℕ → Mark → List Part → Rule
-ruled s m ps = record { left = s; mark = m; parts = ps }
 
 -- the bytes: 59 is ;   64 is @   48 to 57 are the digits   35 is #
 abbrev pub houseRules : List Rule

@@ -1,6 +1,6 @@
 -- The house grammar keeps the bounds: one computation over its rules. (A ghost member cites it, so it stands here and not in proofs/.)
 use mathlib.Core.Path.{_≡_, refl}
-use mathlib.Core.Bool.{Bool, true, false, _&&_}
+use mathlib.Core.Bool.{Bool, true, _&&_}
 use mathlib.Core.List.{List, [], _∷_}
 use Prim.Native.Nat.{ℕ, zero, suc}
 use lib.Dec.{ltb, leb}
@@ -11,7 +11,7 @@ use Rattle.std.specs.shelf.Lists.{All}
 use Rattle.std.specs.shelf.Maps.{nth}
 use Rattle.std.proofs.shelf.Maps.{nth-past}
 use Rattle.std.proofs.shelf.Tests.{and-parts, ltb-true, leb-true}
-use Rattle.grammar.specs.Meaning.{Rule, Meaning, Bounded, LawfulPart, LawfulRule}
+use Rattle.grammar.specs.Meaning.{Rule, Bounded, LawfulPart, LawfulRule}
 use Rattle.grammar.specs.House.{houseMeaning, houseRules}
 use Rattle.grammar.specs.declared.Part.{Part}
 use Rattle.grammar.specs.declared.Part.the-variants.{Symbol, Range, Except}

@@ -1,3 +1,9 @@
 pub mod Meaning
 pub mod House
 pub mod HouseBounds
+pub mod Spaced
+pub mod SpacedBounds
+pub mod SpacedLaws
+pub mod Barred
+pub mod BarredBounds
+pub mod BarredLaws

@@ -1,6 +1,6 @@
 -- What a grammar means, the questions that it is asked, and the bounds that every grammar keeps.
 use mathlib.Core.Path.{_≡_}
-use mathlib.Core.Bool.{Bool, true, false, not, _&&_}
+use mathlib.Core.Bool.{Bool, false, not, _&&_}
 use mathlib.Core.List.{List}
 use Prim.Native.Nat.{ℕ, _<_, _≤_}
 use lib.Dec.{leb, eqb}
@@ -19,6 +19,9 @@ pub record Rule : Type 0 where
   pub left : ℕ
   pub mark : Mark
   pub parts : List Part
+
+abbrev pub ruled : ℕ → Mark → List Part → Rule
+ruled s m ps = record { left = s; mark = m; parts = ps }
 
 -- the start symbol, how many symbols and rule numbers there are, and the rule at each number: None at a gap and past the last
 pub record Meaning : Type 0 where

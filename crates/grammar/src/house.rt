@@ -1,5 +1,4 @@
 // The house grammar: a cue is settings such as 7@5, parted by semicolons, or a remark behind a number sign.
-ghost use mathlib.Core.Path.{_≡_};
 ghost use Rattle.grammar.specs.House.{houseMeaning};
 ghost use Rattle.grammar.specs.HouseBounds.{house-bounded};
 use crate::Grammar;
@@ -14,18 +13,10 @@ const NUM: u16 = 2;
 
 const REST: u16 = 3;
 
+const SYMBOLS: u16 = 4;
+
 #[derive(Clone, Copy)]
 pub struct House;
-
-// The part that only this byte matches.
-fn only(byte: u8) -> Part
-    ensures { λ r. ⌜ r ≡ Part.Range byte byte ⌝ }
-{
-    Part::Range {
-        low: byte,
-        high: byte,
-    }
-}
 
 pub impl Grammar for House as HouseGrammar {
     ghost meaning = { λ _. houseMeaning };
@@ -37,7 +28,7 @@ pub impl Grammar for House as HouseGrammar {
     }
 
     fn symbols(&self) -> u16 {
-        4
+        SYMBOLS
     }
 
     fn rules(&self) -> u16 {
@@ -75,16 +66,16 @@ pub impl Grammar for House as HouseGrammar {
     fn part(&self, rule: u16, k: u8) -> Option<Part> {
         match (rule, k) {
             (0 | 1, 0) => Some(Part::Symbol(SET)),
-            (1, 1) => Some(only(b';')),
+            (1, 1) => Some(Part::only(b';')),
             (1, 2) => Some(Part::Symbol(CUE)),
             (2, 0 | 2) => Some(Part::Symbol(NUM)),
-            (2, 1) => Some(only(b'@')),
+            (2, 1) => Some(Part::only(b'@')),
             (3 | 4, 0) => Some(Part::Range {
                 low: b'0',
                 high: b'9',
             }),
             (4, 1) => Some(Part::Symbol(NUM)),
-            (5, 0) => Some(only(b'#')),
+            (5, 0) => Some(Part::only(b'#')),
             (5 | 7, 1) => Some(Part::Symbol(REST)),
             (7, 0) => Some(Part::Except(10, 13, 13)),
             _ => None,

@@ -1,9 +1,12 @@
-// Grammars: the parts of a rule, the questions that a grammar is asked, and the house grammar.
-ghost use Prim.Native.Nat.{ℕ};
+// Grammars: the parts of a rule, the questions that a grammar is asked, the house grammar, and two layers over any grammar.
 ghost use mathlib.Core.Path.{_≡_};
 ghost use Rattle.grammar.specs.Meaning.{Meaning, Bounded, allows, leftOf, markOf, countOf, partOf};
 
+pub mod barred;
+mod blank;
 pub mod house;
+pub mod laws;
+pub mod spaced;
 
 // Whether blanks may stand between a rule's parts, where a layer allows them (loose), or may not (tight).
 #[derive(Clone, Copy, PartialEq, Eq)]
@@ -21,6 +24,16 @@ pub enum Part {
 }
 
 impl Part {
+    // The part that only this byte matches.
+    pub fn only(byte: u8) -> Part
+        ensures { λ r. ⌜ r ≡ Part.Range byte byte ⌝ }
+    {
+        Part::Range {
+            low: byte,
+            high: byte,
+        }
+    }
+
     // Whether a leaf with this byte matches the part. A symbol allows none: it is matched by a rule node.
     pub fn allows(self, byte: u8) -> bool
         ensures { λ r. ⌜ r ≡ allows self byte ⌝ }

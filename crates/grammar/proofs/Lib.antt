@@ -1,0 +1,4 @@
+pub mod Interspersed
+pub mod Told
+pub mod SpacedLaws
+pub mod BarredLaws
