@@ -2,20 +2,30 @@
 use std::alloc::AllocError;
 use std::alloc::Global;
 
+// A cue in the making. `blank` is the listing of a blank that takes no space, where the grammar asks for one between parts.
 #[derive(Drop)]
-pub struct Cue {
+pub struct Cue<'a> {
     pub text: Vec<u8>,
     pub listing: Vec<u8>,
+    blank: &'a [u8],
     settings: usize,
 }
 
-impl Cue {
-    pub(crate) fn new(heap: Global) -> Result<Cue, AllocError> {
-        Ok(Cue {
+impl<'a> Cue<'a> {
+    pub(crate) fn new(heap: Global, blank: &'a [u8]) -> Cue<'a> {
+        Cue {
             text: Vec::new(heap),
             listing: Vec::new(heap),
+            blank,
             settings: 0,
-        })
+        }
+    }
+
+    // A byte between two parts.
+    fn between(&mut self, byte: &[u8]) -> Result<(), AllocError> {
+        self.listing.extend_from_slice(self.blank)?;
+        self.listing.extend_from_slice(byte)?;
+        self.listing.extend_from_slice(self.blank)
     }
 
     // A setting whose number has so many digits, at the level 0.
@@ -30,7 +40,8 @@ impl Cue {
         for _ in 1..digits {
             self.listing.extend_from_slice(b")\n")?;
         }
-        self.listing.extend_from_slice(b"=40\n(3\n=30\n)\n)\n")
+        self.between(b"=40\n")?;
+        self.listing.extend_from_slice(b"(3\n=30\n)\n)\n")
     }
 
     // A setting that others follow.
@@ -39,7 +50,7 @@ impl Cue {
         self.set(digits)?;
         self.text.push(b';')?;
         self.settings = self.settings.saturating_add(1);
-        self.listing.extend_from_slice(b"=3b\n")
+        self.between(b"=3b\n")
     }
 
     // The last setting, and the leaves of all cues.

@@ -1,6 +1,10 @@
-// Checks of whole cues under the house grammar: the lines that the rules ask for, and the limits.
+// Checks of whole cues: the lines that the rules ask for, and the limits.
 #[cfg(test)]
 mod cues;
+#[cfg(test)]
+mod other_forms;
+#[cfg(test)]
+mod tables;
 
 #[cfg(test)]
 mod tests {
@@ -130,7 +134,7 @@ mod tests {
     #[test]
     fn depth_limit(rt: LibcRuntime) -> Result<(), Fail> {
         let heap = rt.alloc();
-        let mut cue = Cue::new(heap)?;
+        let mut cue = Cue::new(heap, b"");
         cue.add_last(1_022)?;
         expect(
             heap,
@@ -146,7 +150,7 @@ mod tests {
             1_023,
             "no 10 event=2044 at=1021\n",
         )?;
-        let mut deeper = Cue::new(heap)?;
+        let mut deeper = Cue::new(heap, b"");
         deeper.add_last(1_023)?;
         expect(
             heap,
@@ -161,7 +165,7 @@ mod tests {
     #[test]
     fn event_limit(rt: LibcRuntime) -> Result<(), Fail> {
         let heap = rt.alloc();
-        let mut cue = Cue::new(heap)?;
+        let mut cue = Cue::new(heap, b"");
         for _ in 0..51 {
             cue.add(100)?;
         }
@@ -173,7 +177,7 @@ mod tests {
             1_024,
             "no 6 event=16000 at=5353\n",
         )?;
-        let mut most = Cue::new(heap)?;
+        let mut most = Cue::new(heap, b"");
         for _ in 0..29 {
             most.add(100)?;
         }
