@@ -17,6 +17,7 @@ use packed::Packed;
 use packed::PackedGrammar;
 use report::line::Outcome;
 use report::line::line;
+use std::alloc::AllocError;
 use std::alloc::Global;
 use std::test::*;
 use walk::check as check_guide;
@@ -29,65 +30,21 @@ const SPACED_SEVEN: &[u8] =
     b"(0\n(2\n(3\n=37\n)\n(9\n=20\n(8\n)\n)\n=40\n(8\n)\n(3\n=35\n)\n)\n)\n";
 
 // The link table of 7@5, where record 2 has this sibling.
-fn seven_at_five(sibling: u8) -> [u8; 56] {
-    [
-        1,
-        0,
-        0,
-        0,
-        0,
-        1,
-        0,
-        0,
-        1,
-        0,
-        0,
-        2,
-        0,
-        2,
-        0,
-        0,
-        1,
-        0,
-        0,
-        3,
-        0,
-        3,
-        0,
-        sibling,
-        2,
-        0,
-        0,
-        55,
-        0,
-        0,
-        0,
-        0,
-        2,
-        0,
-        0,
-        64,
-        0,
-        0,
-        0,
-        5,
-        1,
-        0,
-        0,
-        3,
-        0,
-        6,
-        0,
-        0,
-        2,
-        0,
-        0,
-        53,
-        0,
-        0,
-        0,
-        0,
-    ]
+fn seven_at_five(heap: Global, sibling: u8) -> Result<Vec<u8>, AllocError> {
+    let records = [
+        [1, 0, 0, 0, 0, 1, 0, 0],
+        [1, 0, 0, 2, 0, 2, 0, 0],
+        [1, 0, 0, 3, 0, 3, 0, sibling],
+        [2, 0, 0, b'7', 0, 0, 0, 0],
+        [2, 0, 0, b'@', 0, 0, 0, 5],
+        [1, 0, 0, 3, 0, 6, 0, 0],
+        [2, 0, 0, b'5', 0, 0, 0, 0],
+    ];
+    let mut table = Vec::new(heap);
+    for record in &records {
+        table.extend_from_slice(record)?;
+    }
+    Ok(table)
 }
 
 fn expect<B: Grammar, G: Guide>(
@@ -109,7 +66,7 @@ fn expect<B: Grammar, G: Guide>(
 #[test]
 fn link_table(rt: LibcRuntime) -> Result<(), Fail> {
     let heap = rt.alloc();
-    let table = seven_at_five(4);
+    let table = seven_at_five(heap, 4)?;
     expect(
         heap,
         &House,
@@ -117,7 +74,7 @@ fn link_table(rt: LibcRuntime) -> Result<(), Fail> {
         b"7@5",
         "ok rules=4 bytes=3 steps=12\n",
     )?;
-    let wrong = seven_at_five(5);
+    let wrong = seven_at_five(heap, 5)?;
     expect(
         heap,
         &House,
