@@ -1,6 +1,7 @@
 -- A change of what is under one number keeps the memory's invariant, and changes no other text.
 use mathlib.Core.Path.{_≡_, refl, sym, ap, _∙_}
 use mathlib.Core.List.{List}
+use mathlib.Core.Bool.{false}
 use mathlib.Core.Logic.{inl, inr}
 use Prim.Native.Nat.{ℕ, _+_, _≤_, _<_}
 use native.Mathlib.Omega.{arith}
@@ -11,8 +12,9 @@ use Rattle.std.specs.Finite.{update}
 use Rattle.std.specs.declared.option.Option.{Option}
 use Rattle.std.specs.declared.option.Option.the-variants.{Some, None}
 use Rattle.std.proofs.shelf.Lists.{getD-set-same, getD-set-other, getD-past, length-set, length-take}
-use Rattle.std.proofs.shelf.Tests.{cases-eq, eq-eqb, ne-eqb}
-use Rattle.memory.specs.Texts.{Texts, sumTo, need, needs}
+use Rattle.std.proofs.shelf.Tests.{cases-eq, cases-lt, eq-eqb, ne-eqb}
+use Rattle.std.proofs.shelf.Ways.{tells}
+use Rattle.memory.specs.Texts.{Texts, need, isNumber}
 use Rattle.memory.specs.Blocks.{gathered, owned, released, textsIn, Noted, Owns, Rest, Placed}
 use Rattle.memory.specs.declared.blocks.Blocks.{Blocks}
 use Rattle.memory.proofs.Sums.{sumTo-change}
@@ -25,12 +27,19 @@ textsOf s = textsIn (s .blocks) (s .owners) (s .lengths)
 abbrev pub Fit : List (List ℕ) → List ℕ → List (Option ℕ) → Type 0
 Fit bs os ls = (length ls ≡ 121) × ((getD ls 0 None ≡ None) × (Noted bs os ls × (Owns bs os ls × (Rest bs os ls × Unit {0}))))
 
--- outside the numbers there is no text
-pub none-past : (s : Blocks) (n : ℕ) → 120 < n → textsOf s n ≡ None
+none-past : (s : Blocks) (n : ℕ) → 120 < n → textsOf s n ≡ None
 none-past s n h = simp (getD-past (s .lengths) n None (omega (arith, s .sized)))
 
-pub none-under-0 : (s : Blocks) (n : ℕ) → n ≡ 0 → textsOf s n ≡ None
+none-under-0 : (s : Blocks) (n : ℕ) → n ≡ 0 → textsOf s n ≡ None
 none-under-0 s n e = simp (e, s .unnumbered)
+
+-- what is no number has no text
+pub none-unnumbered : (s : Blocks) (n : ℕ) → isNumber n ≡ false → textsOf s n ≡ None
+none-unnumbered s n e =
+    elim (cases-lt 120 n) [
+      | inl h ↦ none-past s n h
+      | inr h ↦ none-under-0 s n (grind (arith, tells))
+    ]
 
 -- a number with a text of k bytes
 module _ (s : Blocks) (n k : ℕ) (h : mapped (λ (t : List ℕ). length t) (textsOf s n) ≡ Some k) where

@@ -42,8 +42,8 @@ Owns blocks owners lengths = (n : ℕ) → 0 < n → owned n owners ≡ need (te
 abbrev pub Rest : List (List ℕ) → List ℕ → List (Option ℕ) → Type 0
 Rest blocks owners lengths = needs (textsIn blocks owners lengths) + owned 0 owners ≡ 512
 
--- n's text was placed in unused blocks, as many as it needs, and no other number lost or gained a block or a byte; `before` are the
--- owners and blocks before, `after` those after
+-- n's text was placed in unused blocks, as many as it needs, and no other number lost or gained a block or a byte (owners and blocks
+-- afterwards have a prime)
 pub record Placed (n : ℕ) (text : List ℕ) (owners : List ℕ) (blocks : List (List ℕ)) (owners′ : List ℕ) (blocks′ : List (List ℕ)) : Type 0 where
   pub own : take (length text) (gathered n owners′ blocks′) ≡ text
   pub count : owned n owners′ ≡ blocksFor (length text)

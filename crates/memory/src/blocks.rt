@@ -8,21 +8,24 @@ ghost use Rattle.std.specs.declared.option.Option.the-variants.{None, Some};
 ghost use Rattle.memory.specs.Texts.{blocksFor, noTexts, holding, without, needs, free};
 ghost use Rattle.memory.specs.Blocks.{textsIn, Noted, Owns, Rest};
 use crate::BLOCK_BYTES;
-use crate::LAST_NUMBER;
 use crate::LONGEST_TEXT;
 use crate::Memory;
 use crate::blocks_for;
+use crate::is_number;
 
 mod layout;
 
 const BLOCKS: usize = 512;
+
+// A length for each number, and one for 0, under which there is no text.
+const LENGTHS: usize = 121;
 
 // The blocks, the owner of each (0 where it is unused), and the length of the text under each number.
 #[derive(Drop)]
 pub struct Blocks {
     blocks: [[u8; BLOCK_BYTES]; BLOCKS],
     owners: [u8; BLOCKS],
-    lengths: [Option<u16>; 121],
+    lengths: [Option<u16>; LENGTHS],
     ghost sized: { length lengths ≡ 121 },
     ghost unnumbered: { getD lengths 0 None ≡ None },
     ghost noted: { Noted blocks owners lengths },
@@ -38,7 +41,7 @@ impl Blocks {
         Blocks {
             blocks: [[0; BLOCK_BYTES]; BLOCKS],
             owners: [0; BLOCKS],
-            lengths: [None; 121],
+            lengths: [None; LENGTHS],
         }
     }
 
@@ -80,7 +83,7 @@ pub impl Memory for Blocks as BlockMemory {
     ghost bounds = { λ s. omega (arith, s .rest) };
 
     fn length_of(&self, number: u16) -> Option<u16> {
-        if number > LAST_NUMBER {
+        if !is_number(number) {
             return None;
         }
         self.lengths[number as usize]
@@ -91,7 +94,7 @@ pub impl Memory for Blocks as BlockMemory {
     }
 
     fn store(&mut self, number: u16, text: &[u8]) -> bool {
-        if number == 0 || number > LAST_NUMBER {
+        if !is_number(number) {
             return false;
         }
         if self.length_of(number).is_some() {
@@ -105,7 +108,7 @@ pub impl Memory for Blocks as BlockMemory {
     }
 
     fn strike(&mut self, number: u16) -> bool {
-        if number == 0 || number > LAST_NUMBER {
+        if !is_number(number) {
             return false;
         }
         if self.length_of(number).is_none() {
@@ -116,7 +119,7 @@ pub impl Memory for Blocks as BlockMemory {
     }
 
     fn copy_out(&self, number: u16, buffer: &mut [u8]) -> bool {
-        if number > LAST_NUMBER {
+        if !is_number(number) {
             return false;
         }
         let Some(length) = self.length_of(number) else {

@@ -4,8 +4,8 @@ ghost use mathlib.Core.Bool.{cond};
 ghost use Prim.Native.Nat.{ℕ, _+_, _≤_};
 ghost use lib.ListN.{length};
 ghost use Rattle.std.specs.Options.{mapped, isSome};
-ghost use Rattle.memory.specs.Texts.{Texts, blocksFor, holding, without, needs, free, storable, copyable, copied};
-ghost use Rattle.memory.specs.Laws.{Needs-of-0-64-and-65-bytes, Empty-is-all-free, Same-texts-same-room};
+ghost use Rattle.memory.specs.Texts.{Texts, blocksFor, holding, without, needs, free, isNumber, storable, copyable, copied};
+ghost use Rattle.memory.specs.Laws.{Needs-of-0-64-and-65-bytes, Empty-text-is-not-none, Empty-memory-is-all-free, Stored-text-takes-its-blocks, Struck-text-gives-its-blocks-back, Same-texts-same-room};
 
 pub mod blocks;
 
@@ -16,7 +16,14 @@ pub const LAST_NUMBER: u16 = 120;
 pub const LONGEST_TEXT: usize = 4_096;
 
 // The bytes of a block.
-pub const BLOCK_BYTES: usize = 64;
+const BLOCK_BYTES: usize = 64;
+
+// Whether texts can be held under a number.
+pub fn is_number(number: u16) -> bool
+    ensures { λ r. ⌜ r ≡ isNumber number ⌝ }
+{
+    0 < number && number <= LAST_NUMBER
+}
 
 // How many blocks a text of so many bytes needs.
 pub fn blocks_for(bytes: usize) -> usize
@@ -65,12 +72,29 @@ pub fn needs_and_free_are_all<M: Memory>(memory: &M)
     ensures { λ _. ⌜ needs (M·Memory .texts (now (memory .entry))) + free (M·Memory .blockCount) (M·Memory .texts (now (memory .entry))) ≡ M·Memory .blockCount ⌝ }
 {}
 
+// 0, 64 and 65 bytes need 0, 1 and 2 blocks.
 pub fn needs_of_0_64_and_65_bytes()
     ensures { λ _. ⌜ Needs-of-0-64-and-65-bytes ⌝ }
 {}
 
-pub fn empty_is_all_free()
-    ensures { λ _. ⌜ Empty-is-all-free ⌝ }
+// A number with an empty text is not a number without a text.
+pub fn empty_text_is_not_none()
+    ensures { λ _. ⌜ Empty-text-is-not-none ⌝ }
+{}
+
+// Where no text is held, every block is free.
+pub fn empty_memory_is_all_free()
+    ensures { λ _. ⌜ Empty-memory-is-all-free ⌝ }
+{}
+
+// A text that is stored takes as many free blocks as it needs.
+pub fn stored_text_takes_its_blocks()
+    ensures { λ _. ⌜ Stored-text-takes-its-blocks ⌝ }
+{}
+
+// A text that is struck out leaves as many blocks free as it needed.
+pub fn struck_text_gives_its_blocks_back()
+    ensures { λ _. ⌜ Struck-text-gives-its-blocks-back ⌝ }
 {}
 
 // Only the texts count, and not how they came or where they lie.

@@ -5,13 +5,14 @@ ghost use lib.ListN.{length, take};
 ghost use Rattle.memory.specs.Texts.{blocksFor};
 ghost use Rattle.memory.specs.Blocks.{gathered, owned, released, Placed};
 use crate::BLOCK_BYTES;
+use crate::blocks::BLOCKS;
 
 // Counts the blocks without an owner.
-pub(crate) fn count_unused(owners: &[u8; 512]) -> u16
+pub(crate) fn count_unused(owners: &[u8; BLOCKS]) -> u16
     ensures { λ r. ⌜ r ≡ owned 0 (now (owners .entry)) ⌝ }
 {
     let mut count: u16 = 0;
-    for i in 0..512 {
+    for i in 0..BLOCKS {
         if owners[i] == 0 {
             count += 1;
         }

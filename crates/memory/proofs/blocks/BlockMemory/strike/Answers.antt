@@ -1,12 +1,8 @@
-use mathlib.Core.Path.{_≡_, refl}
-use mathlib.Core.Logic.{inl, inr}
-use Rattle.std.specs.declared.option.Option.the-variants.{None}
-use Rattle.memory.proofs.Change.{textsOf, none-past, none-under-0}
+use mathlib.Core.Path.{refl, sym, _∙_}
+use Rattle.memory.proofs.Change.{none-unnumbered}
 use Rattle.memory.proofs.blocks.BlockMemory.strike.Needs as need
 
-pub returns-then-number-eq0 : need.returns-then-number-eq0
-returns-then-number-eq0 c =
-    let s = c .args .self .now in
-    let n = c .args .number in
-    let e : textsOf s n ≡ None = elim (c .then-number-eq0 .either) [ inl z ↦ none-under-0 s n z | inr p ↦ none-past s n (p .1) ] in
-    record { answer = simp e; held = refl }
+pub returns-then-not-is-number : need.returns-then-not-is-number
+returns-then-not-is-number c =
+    let none = none-unnumbered (c .args .self .now) (c .args .number) (sym (c .is-number .ensures) ∙ c .if-not-is-number .taken) in
+    record { answer = simp none; held = refl }
