@@ -38,9 +38,13 @@ Noted blocks owners lengths =
 abbrev pub Owns : List (List ℕ) → List ℕ → List (Option ℕ) → Type 0
 Owns blocks owners lengths = (n : ℕ) → 0 < n → owned n owners ≡ need (textsIn blocks owners lengths n)
 
--- the other blocks of 512 are unused
+-- the blocks that there are
+abbrev pub allBlocks : ℕ
+allBlocks = 512
+
+-- the other blocks are unused
 abbrev pub Rest : List (List ℕ) → List ℕ → List (Option ℕ) → Type 0
-Rest blocks owners lengths = needs (textsIn blocks owners lengths) + owned 0 owners ≡ 512
+Rest blocks owners lengths = needs (textsIn blocks owners lengths) + owned 0 owners ≡ allBlocks
 
 -- n's text was placed in unused blocks, as many as it needs, and no other number lost or gained a block or a byte (owners and blocks
 -- afterwards have a prime)

@@ -5,8 +5,8 @@ ghost use native.Mathlib.Omega.{arith};
 ghost use lib.ListN.{getD, length};
 ghost use Rattle.std.specs.Options.{mapped};
 ghost use Rattle.std.specs.declared.option.Option.the-variants.{None, Some};
-ghost use Rattle.memory.specs.Texts.{blocksFor, noTexts, holding, without, needs, free};
-ghost use Rattle.memory.specs.Blocks.{textsIn, Noted, Owns, Rest};
+ghost use Rattle.memory.specs.Texts.{blocksFor, lastNumber, longestText, noTexts, holding, without, needs, free};
+ghost use Rattle.memory.specs.Blocks.{allBlocks, textsIn, Noted, Owns, Rest};
 use crate::BLOCK_BYTES;
 use crate::LONGEST_TEXT;
 use crate::Memory;
@@ -55,7 +55,7 @@ impl Blocks {
 
     // Takes away what is under a number.
     fn remove(&mut self, number: u8)
-        requires { ⌜ 0 < number ⌝ ∗ ⌜ number ≤ 120 ⌝ }
+        requires { ⌜ 0 < number ⌝ ∗ ⌜ number ≤ lastNumber ⌝ }
         ensures { λ _. ⌜ textsIn (now (self .exit) .blocks) (now (self .exit) .owners) (now (self .exit) .lengths) ≡ without (textsIn (now (self .entry) .blocks) (now (self .entry) .owners) (now (self .entry) .lengths)) number ⌝ }
     {
         layout::release(&mut self.owners, number);
@@ -64,10 +64,10 @@ impl Blocks {
 
     // Puts a text under a number that has none.
     fn insert(&mut self, number: u8, text: &[u8])
-        requires numbered { ⌜ 0 < number ⌝ ∗ ⌜ number ≤ 120 ⌝ }
+        requires numbered { ⌜ 0 < number ⌝ ∗ ⌜ number ≤ lastNumber ⌝ }
         requires unused { ⌜ textsIn (now self .blocks) (now self .owners) (now self .lengths) number ≡ None ⌝ }
-        requires short { ⌜ length (now text) ≤ 4096 ⌝ }
-        requires room { ⌜ blocksFor (length (now text)) ≤ free 512 (textsIn (now self .blocks) (now self .owners) (now self .lengths)) ⌝ }
+        requires short { ⌜ length (now text) ≤ longestText ⌝ }
+        requires room { ⌜ blocksFor (length (now text)) ≤ free allBlocks (textsIn (now self .blocks) (now self .owners) (now self .lengths)) ⌝ }
         ensures { λ _. ⌜ textsIn (now (self .exit) .blocks) (now (self .exit) .owners) (now (self .exit) .lengths) ≡ holding (textsIn (now (self .entry) .blocks) (now (self .entry) .owners) (now (self .entry) .lengths)) number (now (text .entry)) ⌝ }
     {
         layout::place(&mut self.owners, &mut self.blocks, number, text);
@@ -76,7 +76,7 @@ impl Blocks {
 }
 
 pub impl Memory for Blocks as BlockMemory {
-    ghost blockCount = { 512 };
+    ghost blockCount = { allBlocks };
 
     ghost texts = { λ s. textsIn (s .blocks) (s .owners) (s .lengths) };
 

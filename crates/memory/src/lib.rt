@@ -38,6 +38,7 @@ pub trait Memory {
     // How many blocks it has.
     ghost blockCount: { ℕ };
 
+    // The text under each number, or none.
     ghost texts: { Self → Texts };
 
     // It never holds more than its blocks have room for.
@@ -72,7 +73,7 @@ pub fn needs_and_free_are_all<M: Memory>(memory: &M)
     ensures { λ _. ⌜ needs (M·Memory .texts (now (memory .entry))) + free (M·Memory .blockCount) (M·Memory .texts (now (memory .entry))) ≡ M·Memory .blockCount ⌝ }
 {}
 
-// 0, 64 and 65 bytes need 0, 1 and 2 blocks.
+// No bytes need no block, a block's bytes need one, and a byte more needs two.
 pub fn needs_of_0_64_and_65_bytes()
     ensures { λ _. ⌜ Needs-of-0-64-and-65-bytes ⌝ }
 {}
