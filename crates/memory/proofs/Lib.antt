@@ -1,0 +1,6 @@
+mod Sums
+mod Owners
+mod Gather
+mod Place
+mod Change
+mod Room

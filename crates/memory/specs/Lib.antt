@@ -1,0 +1,3 @@
+pub mod Texts
+pub mod Blocks
+pub mod Laws
