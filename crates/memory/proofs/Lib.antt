@@ -1,6 +1,6 @@
-mod Sums
+pub mod Sums
 mod Owners
 mod Gather
 mod Place
 mod Change
-mod Room
+pub mod Room

@@ -16,10 +16,10 @@ use Rattle.memory.specs.Texts.{Texts, blocksFor, longestText, need, needs, fre
 use Rattle.memory.specs.Laws.{Stored-text-takes-its-blocks, Struck-text-gives-its-blocks-back}
 use Rattle.memory.proofs.Sums.{sumTo-same, sumTo-change}
 
-number-within : (n : ℕ) → isNumber n ≡ true → (0 < n) × (n ≤ 120)
+pub number-within : (n : ℕ) → isNumber n ≡ true → (0 < n) × (n ≤ 120)
 number-within n e = (grind (arith, tells), grind (arith, tells))
 
-number : (n : ℕ) → 0 < n → n ≤ 120 → isNumber n ≡ true
+pub number : (n : ℕ) → 0 < n → n ≤ 120 → isNumber n ≡ true
 number n p q = grind (arith, tells)
 
 module _ (blocks : ℕ) (s s′ : Texts) (same : (n : ℕ) → isNumber n ≡ true → s n ≡ s′ n) where
@@ -34,7 +34,7 @@ module _ (blocks : ℕ) (s s′ : Texts) (same : (n : ℕ) → isNumber n ≡ tr
       by false e = simp e
 
 -- a change of what is under one number
-updated-needs : (s : Texts) (n : ℕ) (o : Option (List ℕ)) → isNumber n ≡ true → needs (update eqb s n o) + need (s n) ≡ needs s + need o
+pub updated-needs : (s : Texts) (n : ℕ) (o : Option (List ℕ)) → isNumber n ≡ true → needs (update eqb s n o) + need (s n) ≡ needs s + need o
 updated-needs s n o numbered =
     let within = number-within n numbered in
     let here : update eqb s n o n ≡ o = simp (eq-eqb n n refl) in

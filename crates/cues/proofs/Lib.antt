@@ -1,0 +1,4 @@
+mod Ways
+mod Runs
+mod Laws
+mod Decided

@@ -1,0 +1,4 @@
+pub mod Calls
+pub mod Sheet
+pub mod Law
+pub mod Requests
