@@ -1,5 +1,7 @@
 // Checks of whole cues: the lines that the rules ask for, and the limits.
 #[cfg(test)]
+mod calls;
+#[cfg(test)]
 mod cues;
 #[cfg(test)]
 mod other_forms;
@@ -7,8 +9,46 @@ mod other_forms;
 mod tables;
 
 #[cfg(test)]
+use std::alloc::AllocError;
+#[cfg(test)]
+use std::alloc::Global;
+#[cfg(test)]
+use tree::verdict::Reason;
+#[cfg(test)]
+use tree::verdict::Verdict;
+
+// A verdict in the words of `cueline`'s line.
+#[cfg(test)]
+fn verdict_line(heap: Global, verdict: Verdict) -> Result<String, AllocError> {
+    match verdict {
+        Ok(accepted) => {
+            let rules = accepted.rules;
+            let bytes = accepted.bytes;
+            let steps = accepted.steps;
+            format!(heap, "ok rules={rules} bytes={bytes} steps={steps}\n")
+        }
+        Err(refusal) => {
+            let number = refusal.reason.number();
+            let events = refusal.events;
+            let bytes = refusal.bytes;
+            match refusal.reason {
+                Reason::GuideFault { defect, place } => {
+                    let fault = defect.number();
+                    format!(
+                        heap,
+                        "no {number} event={events} at={bytes} guide={fault} place={place}\n"
+                    )
+                }
+                _ => format!(heap, "no {number} event={events} at={bytes}\n"),
+            }
+        }
+    }
+}
+
+#[cfg(test)]
 mod tests {
     use super::cues::Cue;
+    use super::verdict_line;
     use grammar::house::House;
     use grammar::house::HouseGrammar;
     use guide::Answer;
@@ -18,8 +58,6 @@ mod tests {
     use guide::listing::Listing;
     use guide::listing::ListingGuide;
     use report::answer;
-    use report::line::Outcome;
-    use report::line::line;
     use std::alloc::Global;
     use std::test::*;
     use walk::check as check_guide;
@@ -38,11 +76,7 @@ mod tests {
     ) -> Result<(), Fail> {
         let mut frames = vec![in heap; Frame::BLANK; frames]?;
         let mut guide = Listing::new(listing);
-        let outcome = match check_guide(&House, &mut guide, text, &mut frames) {
-            Ok(accepted) => Outcome::Accepted(accepted),
-            Err(refusal) => Outcome::Refused(refusal),
-        };
-        let line = line(heap, outcome)?;
+        let line = verdict_line(heap, check_guide(&House, &mut guide, text, &mut frames))?;
         check_eq(line.as_str(), expected)
     }
 
@@ -118,16 +152,16 @@ mod tests {
         expect_line(
             heap,
             b"#\n(5\n=23\n(6\n)\n)\n",
-            "ok rules=2 bytes=1 steps=6\n",
+            "ok rules=2 bytes=1 steps=6 free=511\n",
         )?;
         expect_line(
             heap,
             b"#a\n(5\n=23\n(7\n=61\n(6\n)\n)\n)\n",
-            "ok rules=3 bytes=2 steps=9\n",
+            "ok rules=3 bytes=2 steps=9 free=511\n",
         )?;
         expect_line(heap, b"#\r\n(5\n=23\n(7\n=0d\n", "no 11 event=3 at=1\n")?;
         let list = b"1@2;#\n(1\n(2\n(3\n=31\n)\n=40\n(3\n=32\n)\n)\n=3b\n(5\n=23\n(6\n)\n)\n)\n";
-        expect_line(heap, list, "ok rules=6 bytes=5 steps=18\n")
+        expect_line(heap, list, "ok rules=6 bytes=5 steps=18 free=511\n")
     }
 
     // One way down of so many rule nodes: two above the number, and one for each of its digits.
@@ -198,7 +232,7 @@ mod tests {
     fn input_limit(rt: LibcRuntime) -> Result<(), Fail> {
         let heap = rt.alloc();
         let mut input = vec![in heap; b'7'; 60_000]?;
-        expect_line(heap, &input, "no 7 event=0 at=0\n")?;
+        expect_line(heap, &input, "no 3 event=0 at=0\n")?;
         input.push(b'7')?;
         expect_line(heap, &input, "no 16 event=0 at=0\n")
     }

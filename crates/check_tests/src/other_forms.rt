@@ -1,6 +1,7 @@
 // The same check with link tables, layers and packed tables: the walk knows guides and grammars by their meaning only.
 use crate::cues::Cue;
 use crate::tables::house_table;
+use crate::verdict_line;
 use grammar::Grammar;
 use grammar::barred::Barred;
 use grammar::barred::BarredGrammar;
@@ -15,8 +16,6 @@ use guide::listing::Listing;
 use guide::listing::ListingGuide;
 use packed::Packed;
 use packed::PackedGrammar;
-use report::line::Outcome;
-use report::line::line;
 use std::alloc::AllocError;
 use std::alloc::Global;
 use std::test::*;
@@ -55,11 +54,7 @@ fn expect<B: Grammar, G: Guide>(
     expected: &str,
 ) -> Result<(), Fail> {
     let mut frames = [Frame::BLANK; 1_024];
-    let outcome = match check_guide(grammar, guide, text, &mut frames) {
-        Ok(accepted) => Outcome::Accepted(accepted),
-        Err(refusal) => Outcome::Refused(refusal),
-    };
-    let line = line(heap, outcome)?;
+    let line = verdict_line(heap, check_guide(grammar, guide, text, &mut frames))?;
     check_eq(line.as_str(), expected)
 }
 
