@@ -1,4 +1,6 @@
 // Checks of whole cues: the lines that the rules ask for, and the limits.
+#![tactic(auto)]
+
 #[cfg(test)]
 mod calls;
 #[cfg(test)]

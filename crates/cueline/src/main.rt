@@ -1,4 +1,6 @@
 // Checks one cue: standard input has the text up to the first byte 10, and then a listing. It prints one line.
+#![tactic(auto)]
+
 use report::{MOST_INPUT, answer};
 use std::io;
 use std::io::Read;

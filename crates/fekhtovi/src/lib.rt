@@ -1,4 +1,6 @@
 // What C and Rust callers are given.
+#![tactic(auto)]
+
 ghost use Rattle.std.specs.Prelude.{◌≡◌, length};
 ghost use Rattle.memory.specs.Texts.{no_texts};
 ghost use Rattle.fekhtovi.specs.Check.{check_answer};

@@ -1,4 +1,6 @@
 // The written forms of a tree: how its listing and its link table are written, and that each tree has exactly one of either.
+#![tactic(auto)]
+
 ghost use Rattle.forms.specs.Laws.{OneListingForEachTree, OneLinkTableForEachTree, ListingAsWritten, LinkTableAsWritten, FaultPlaceCountsRecords};
 
 pub fn one_listing_for_each_tree()

@@ -1,4 +1,6 @@
 // Grammars: the parts of a rule, the questions that a grammar is asked, the house grammar, and two layers over any grammar.
+#![tactic(auto)]
+
 ghost use Rattle.std.specs.Prelude.{◌≡◌};
 ghost use Rattle.grammar.specs.Meaning.{Meaning, Bounded, allows, left_of, mark_of, count_of, part_of};
 

@@ -1,4 +1,6 @@
 // Guides: what the editing machine tells of a parse tree, one answer at a time.
+#![tactic(auto)]
+
 ghost use Rattle.std.specs.Prelude.{◌≡◌};
 ghost use Rattle.guide.specs.Told.{Told, InRange, answer, behind, defect_number};
 

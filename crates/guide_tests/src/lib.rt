@@ -1,4 +1,6 @@
 // Tests of the stack and of the two readers of guides.
+#![tactic(auto)]
+
 #[cfg(test)]
 mod expect;
 #[cfg(test)]

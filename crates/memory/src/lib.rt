@@ -1,4 +1,6 @@
 // Memories for texts: what each must answer, how many blocks a text needs, and the memory of 512 blocks.
+#![tactic(auto)]
+
 ghost use Rattle.std.specs.Prelude.{◌≡◌, ℕ, ◌+◌, ◌≤◌, length, is_some, if◌then◌else◌};
 ghost use Rattle.std.specs.Option.{option_map};
 ghost use Rattle.memory.specs.Texts.{Texts, blocks_for, holding, without, needs, free, is_number, storable, copyable, copied};

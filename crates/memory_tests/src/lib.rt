@@ -1,4 +1,6 @@
 // Runs of the memory of 512 blocks: full, with gaps and at its limits.
+#![tactic(auto)]
+
 #[cfg(test)]
 mod tests {
     use memory::Memory;

@@ -1,4 +1,6 @@
 // A grammar in a packed table: the bytes that users bring.
+#![tactic(auto)]
+
 ghost use Rattle.std.specs.Prelude.{◌≡◌, ◌<◌, true, length, None, MatchOption};
 ghost use Rattle.packed.specs.Format.{mark_in, part_in, packed_meaning};
 ghost use Rattle.packed.specs.Check.{table_fault, outcome, is_lawful, opened_meaning};

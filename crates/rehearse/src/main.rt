@@ -1,4 +1,6 @@
 // Replays a script of calls on one cue memory. Standard input has the script; each call is answered by a line, and so is a bad line.
+#![tactic(auto)]
+
 use memory::blocks::Blocks;
 use script::{Order, Trouble, read_order};
 use stage::Stage;

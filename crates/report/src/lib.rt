@@ -1,4 +1,6 @@
 // What the program `cueline` answers: from its input to the bytes of its line.
+#![tactic(auto)]
+
 ghost use Rattle.std.specs.Prelude.{◌≡◌, IfOk, string_bytes};
 ghost use Rattle.report.specs.Cueline.{outcome, cueline};
 

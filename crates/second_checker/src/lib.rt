@@ -1,5 +1,7 @@
 // A second checker of cues and a second cue memory, written from docs/ alone and another way than the product, to be compared with it.
 // It has nothing of the product in it: this crate uses no other.
+#![tactic(auto)]
+
 pub mod answers;
 mod judge;
 pub mod line;

@@ -1,4 +1,6 @@
 // Prints the rules of the packed table on standard input, or why it is refused. It reads no byte past the length of the largest table.
+#![tactic(auto)]
+
 use grammar::Grammar;
 use packed::Packed;
 use std::alloc::Global;

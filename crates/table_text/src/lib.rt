@@ -1,4 +1,6 @@
 // The pieces of a grammar as text, for people to read.
+#![tactic(auto)]
+
 ghost use Rattle.std.specs.Prelude.{◌≡◌, IfOk, string_bytes};
 ghost use Rattle.table_text.specs.Text.{part_text, mark_text, head_text, fault_text};
 

@@ -1,4 +1,6 @@
 // The theory of parse trees and of the check of a guide: definitions in specs/, and a function for each theorem, whose contract is it.
+#![tactic(auto)]
+
 ghost use Rattle.tree.specs.Theorems.{WalkDeterminesTree, TwoEventsARuleOneAByte, AcceptedExactlyWhenATreeIsTold, OneTreeIsTold, EveryParseTreeIsAccepted, RefusalsSayWhere};
 
 pub mod verdict;

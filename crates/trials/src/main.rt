@@ -1,4 +1,6 @@
 // Compares the product with a second checker on random grammars, trees, texts and guides, over whole runs of calls.
+#![tactic(auto)]
+
 use std::io;
 use tally::Tally;
 

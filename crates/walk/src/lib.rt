@@ -1,4 +1,6 @@
 // The check of a guide against a grammar and a text.
+#![tactic(auto)]
+
 ghost use Rattle.std.specs.Prelude.{◌≡◌, ℕ, length};
 ghost use Rattle.guide.specs.Told.{after};
 ghost use Rattle.tree.specs.Check.{depth_limit, verdict};

@@ -10,4 +10,4 @@ returns-in-61 c = first_and_rest c.args.line.now 61 (omega (arith, ltb-false)) c
 
 pub returns-in-41 : goal.returns-in-41
 returns-in-41 c =
-    first_alone c.args.line.now 41 (omega (arith, ltb-false)) (sym c.is-empty.ensures ∙ c.if-is-empty.true) c.in-41.is
+    first_alone c.args.line.now 41 (omega (arith, ltb-false)) (sym c.is_empty.ensures ∙ c.if-is_empty.true) c.in-41.is

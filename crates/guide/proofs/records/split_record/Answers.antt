@@ -5,4 +5,4 @@ use Rattle.guide.proofs.records.split_record.Goals as goal
 pub returns : goal.returns
 returns c =
     split_first c.args.table.now _ (omega (arith, ltb-false))
-    (simp (c.field.ensures, c.field-2.ensures, c.field-3.ensures) at c.record-of-record.ensures)
+    (simp (c.field.ensures, c.field-2.ensures, c.field-3.ensures) at c.record_of-record.ensures)

@@ -6,4 +6,4 @@ pub returns-then-bytes-ne0 : goal.returns-then-bytes-ne0
 returns-then-bytes-ne0 c = record { tells = wrong_length c.args.bytes.now c.then-bytes-ne0.either; short = omega arith }
 
 pub returns : goal.returns
-returns c = record { tells = right_length c.args.bytes.now c.if-bytes-ne0.false c.if-bytes-gt-MOST-BYTES.false; short = c.if-bytes-gt-MOST-BYTES.false }
+returns c = record { tells = right_length c.args.bytes.now c.if-bytes-ne0.false c.if-bytes-gt-MOST_BYTES.false; short = c.if-bytes-gt-MOST_BYTES.false }

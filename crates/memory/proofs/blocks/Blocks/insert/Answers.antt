@@ -11,8 +11,8 @@ place-requires c = record {
   room = omega (arith, c.args.self.now.rest);
 }
 
-pub invariant-of-self : goal.invariant-of-self
-invariant-of-self c =
+pub invariant_of-self : goal.invariant_of-self
+invariant_of-self c =
     fit_after (stored c.args.self.now c.args.number c.requires.numbered.0 c.requires.unused c.requires.numbered.1
     c.args.text.now c.place.new.owners c.place.new.blocks c.place.ensures)
 

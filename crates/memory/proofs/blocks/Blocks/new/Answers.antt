@@ -4,9 +4,9 @@ use Rattle.memory.specs.Texts.{sum_to}
 use Rattle.memory.proofs.Owners.{unused_owned, none_noted}
 use Rattle.memory.proofs.blocks.Blocks.new.Goals as goal
 
-pub invariant-of-result : goal.invariant-of-result
+pub invariant_of-result : goal.invariant_of-result
 unfolding sum_to
-invariant-of-result c = (
+invariant_of-result c = (
   refl,
   (refl, ((λ n. simp (none_noted 121 n)), ((λ n h. unused_owned 512 n h ∙ sym (simp (none_noted 121 n))), (refl, tt)))),
 )

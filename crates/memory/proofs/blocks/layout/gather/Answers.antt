@@ -20,7 +20,7 @@ loop-i-preserved-then-owners-i c =
     let done = c.loop-i.done in
     let k = c.min-piece.result in
     let buffer = c.loop-i.buffer in
-    let written = c.copy-from-slice.new.self in
+    let written = c.copy_from_slice.new.self in
     let d = gathered n (drop i os) (drop i bs) in
     let b = get_or bs (i - 1) [] in
     let mine = gathered_mine n os bs i (omega arith) (omega arith) (omega arith) c.if-owners-i.true in
@@ -28,7 +28,7 @@ loop-i-preserved-then-owners-i c =
     let room : k ≡ min (length buffer - done) 64 = search rules in
     let k0 : k - 0 ≡ k = omega arith in
     let k1 : done + k - done ≡ k = omega arith in
-    let copied : written ≡ take k b = simp k0 at c.copy-from-slice.ensures.after in
+    let copied : written ≡ take k b = simp k0 at c.copy_from_slice.ensures.after in
     let h = c.loop-i.invariant in
     simp (mine, k1) (copied_length buffer d b written done k h.0 h.1 whole room copied, copied_front buffer d b written done k h.0 h.1 whole room copied)
 

@@ -15,13 +15,13 @@ loop-i-preserved-then-done-text c =
     let i = c.loop-i.i in
     let k = c.min-piece.result in
     let text = c.args.text.now in
-    let written = c.copy-from-slice.new.self in
+    let written = c.copy_from_slice.new.self in
     let whole : length (get_or c.loop-i.blocks (i - 1) []) ≡ 64
     = ap length (at_less c.loop-i.blocks c.args.blocks.now i [] (omega arith) c.loop-i.invariant.1) ∙ c.told-blocks (i - 1) (omega arith) in
     let room : k ≡ min (length text - c.loop-i.done) 64 = search rules in
     let k0 : k - 0 ≡ k = omega arith in
     let k1 : c.loop-i.done + k - c.loop-i.done ≡ k = omega arith in
-    let copied : written ≡ take k (drop c.loop-i.done text) = simp k1 at c.copy-from-slice.ensures.after in
+    let copied : written ≡ take k (drop c.loop-i.done text) = simp k1 at c.copy_from_slice.ensures.after in
     simp k0 (reached_take c.args.number text c.loop-i.done i c.args.owners.now c.args.blocks.now c.loop-i.owners c.loop-i.blocks
     (omega arith) (omega arith) (omega arith) (omega arith) (omega arith) c.loop-i.invariant
     written k c.requires.numbered c.if-owners-i-eq0.true c.if-done-text.true whole room copied)
