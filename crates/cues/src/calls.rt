@@ -25,7 +25,7 @@ fn at_once(reason: Reason) -> Refusal
 
 // The first no of what a load asks before it reads the guide.
 fn before_load<M: Memory>(memory: &M, number: u16, text: &[u8]) -> Option<Reason>
-    ensures { result ≡ before_load M.Memory.blockCount (M.Memory.texts memory.now) number text.now }
+    ensures { result ≡ before_load M.Memory.block_count (M.Memory.texts memory.now) number text.now }
 {
     if !is_number(number) {
         return Some(Reason::NumberOutside);
@@ -66,7 +66,7 @@ pub fn load<M: Memory, B: Grammar, G: Guide>(
     guide: &mut G,
     frames: &mut [Frame],
 ) -> Result<Accepted, Refusal>
-    ensures { Loads M.Memory.blockCount (M.Memory.texts memory.old) (loading number text.now (B.Grammar.meaning grammar.now) (G.Guide.told guide.old) (length frames.old)) result (M.Memory.texts memory.new) (G.Guide.told guide.new) }
+    ensures { Loads M.Memory.block_count (M.Memory.texts memory.old) (loading number text.now (B.Grammar.meaning grammar.now) (G.Guide.told guide.old) (length frames.old)) result (M.Memory.texts memory.new) (G.Guide.told guide.new) }
 {
     if let Some(reason) = before_load(memory, number, text) {
         return Err(at_once(reason));
@@ -80,7 +80,7 @@ pub fn load<M: Memory, B: Grammar, G: Guide>(
 
 // Strikes out the text under the number, and answers the number.
 pub fn clear<M: Memory>(memory: &mut M, number: u16) -> Result<u16, Refusal>
-    ensures { Clears M.Memory.blockCount (M.Memory.texts memory.old) number result (M.Memory.texts memory.new) }
+    ensures { Clears M.Memory.block_count (M.Memory.texts memory.old) number result (M.Memory.texts memory.new) }
 {
     if !is_number(number) {
         return Err(at_once(Reason::NumberOutside));
@@ -109,7 +109,7 @@ pub fn fetch<M: Memory>(memory: &M, number: u16, buffer: &mut [u8]) -> Result<us
 
 // The blocks that no text needs.
 pub fn free<M: Memory>(memory: &M) -> u16
-    ensures { result ≡ free_in M.Memory.blockCount (M.Memory.texts memory.now) }
+    ensures { result ≡ free_in M.Memory.block_count (M.Memory.texts memory.now) }
 {
     memory.free_blocks()
 }

@@ -30,7 +30,7 @@ fn answer_to<M: Memory, B: Grammar, G: Guide>(
     frames: &mut [Frame],
     buffer: &mut [u8],
 ) -> Answer
-    ensures sheet { Performs M.Memory.blockCount (M.Memory.texts memory.old) (call_of request text.now (B.Grammar.meaning grammar.now) (G.Guide.told guide.old) (length frames.old) buffer.old) result (M.Memory.texts memory.new) buffer.old buffer.new (G.Guide.told guide.old) (G.Guide.told guide.new) }
+    ensures sheet { Performs M.Memory.block_count (M.Memory.texts memory.old) (call_of request text.now (B.Grammar.meaning grammar.now) (G.Guide.told guide.old) (length frames.old) buffer.old) result (M.Memory.texts memory.new) buffer.old buffer.new (G.Guide.told guide.old) (G.Guide.told guide.new) }
     ensures frames { FramesSpared request frames.old frames.new }
 {
     match request {
@@ -61,9 +61,9 @@ pub fn perform<M: Memory, B: Grammar, G: Guide>(
     frames: &mut [Frame],
     buffer: &mut [u8],
 ) -> Answer
-    ensures law { Law M.Memory.blockCount (M.Memory.texts memory.old) (call_of request text.now (B.Grammar.meaning grammar.now) (G.Guide.told guide.old) (length frames.old) buffer.old) result (M.Memory.texts memory.new) buffer.old buffer.new (G.Guide.told guide.old) (G.Guide.told guide.new) }
-    ensures run { GoesOn M.Memory.blockCount (M.Memory.texts memory.old) (call_of request text.now (B.Grammar.meaning grammar.now) (G.Guide.told guide.old) (length frames.old) buffer.old) result (M.Memory.texts memory.new) buffer.old buffer.new (G.Guide.told guide.old) (G.Guide.told guide.new) }
-    ensures sheet { Performs M.Memory.blockCount (M.Memory.texts memory.old) (call_of request text.now (B.Grammar.meaning grammar.now) (G.Guide.told guide.old) (length frames.old) buffer.old) result (M.Memory.texts memory.new) buffer.old buffer.new (G.Guide.told guide.old) (G.Guide.told guide.new) }
+    ensures law { Law M.Memory.block_count (M.Memory.texts memory.old) (call_of request text.now (B.Grammar.meaning grammar.now) (G.Guide.told guide.old) (length frames.old) buffer.old) result (M.Memory.texts memory.new) buffer.old buffer.new (G.Guide.told guide.old) (G.Guide.told guide.new) }
+    ensures run { GoesOn M.Memory.block_count (M.Memory.texts memory.old) (call_of request text.now (B.Grammar.meaning grammar.now) (G.Guide.told guide.old) (length frames.old) buffer.old) result (M.Memory.texts memory.new) buffer.old buffer.new (G.Guide.told guide.old) (G.Guide.told guide.new) }
+    ensures sheet { Performs M.Memory.block_count (M.Memory.texts memory.old) (call_of request text.now (B.Grammar.meaning grammar.now) (G.Guide.told guide.old) (length frames.old) buffer.old) result (M.Memory.texts memory.new) buffer.old buffer.new (G.Guide.told guide.old) (G.Guide.told guide.new) }
     ensures frames { FramesSpared request frames.old frames.new }
 {
     answer_to(memory, request, text, grammar, guide, frames, buffer)
@@ -76,5 +76,5 @@ pub fn only_what_is_left_counts()
 
 // A memory that holds no text is where every run begins.
 pub fn runs_begin_empty<M: Memory>(memory: &M)
-    ensures { M.Memory.texts memory.now ≡ no_texts → Begins M.Memory.blockCount (M.Memory.texts memory.now) }
+    ensures { M.Memory.texts memory.now ≡ no_texts → Begins M.Memory.block_count (M.Memory.texts memory.now) }
 {}

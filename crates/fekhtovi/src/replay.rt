@@ -37,8 +37,8 @@ fn load<M: Memory>(
     frames: &mut [Frame],
 ) -> FekhtoviAnswer
     requires { length frames.old ≡ 1024 }
-    ensures answers { result ≡ unless (first_no head.form fields.entry.table.now (pairs_in fields.entry.bars.now)) (of_answer (answer M.Memory.blockCount (M.Memory.texts memory.old) (load_call (loading number fields.entry.text.now (chosen_meaning fields.entry.table.now head.blanks (pairs_in fields.entry.bars.now)) (guide_told (form_of head.form) fields.entry.guide.now) (min head.frames 1024))))) }
-    ensures texts { M.Memory.texts memory.new ≡ held_unless (first_no head.form fields.entry.table.now (pairs_in fields.entry.bars.now)) (M.Memory.texts memory.old) (next M.Memory.blockCount (M.Memory.texts memory.old) (load_call (loading number fields.entry.text.now (chosen_meaning fields.entry.table.now head.blanks (pairs_in fields.entry.bars.now)) (guide_told (form_of head.form) fields.entry.guide.now) (min head.frames 1024)))) }
+    ensures answers { result ≡ unless (first_no head.form fields.entry.table.now (pairs_in fields.entry.bars.now)) (of_answer (answer M.Memory.block_count (M.Memory.texts memory.old) (load_call (loading number fields.entry.text.now (chosen_meaning fields.entry.table.now head.blanks (pairs_in fields.entry.bars.now)) (guide_told (form_of head.form) fields.entry.guide.now) (min head.frames 1024))))) }
+    ensures texts { M.Memory.texts memory.new ≡ held_unless (first_no head.form fields.entry.table.now (pairs_in fields.entry.bars.now)) (M.Memory.texts memory.old) (next M.Memory.block_count (M.Memory.texts memory.old) (load_call (loading number fields.entry.text.now (chosen_meaning fields.entry.table.now head.blanks (pairs_in fields.entry.bars.now)) (guide_told (form_of head.form) fields.entry.guide.now) (min head.frames 1024)))) }
 {
     let Some(form) = Form::numbered(head.form) else {
         return FekhtoviAnswer::refused_with(UNKNOWN_FORM);
@@ -87,8 +87,8 @@ fn make<M: Memory>(
     buffer: &mut [u8],
 ) -> FekhtoviAnswer
     requires { length frames.old ≡ 1024 }
-    ensures answers { result ≡ answer_to M.Memory.blockCount (M.Memory.texts memory.old) (scripted_in call.entry) buffer.old }
-    ensures texts { M.Memory.texts memory.new ≡ held_after M.Memory.blockCount (M.Memory.texts memory.old) (scripted_in call.entry) buffer.old }
+    ensures answers { result ≡ answer_to M.Memory.block_count (M.Memory.texts memory.old) (scripted_in call.entry) buffer.old }
+    ensures texts { M.Memory.texts memory.new ≡ held_after M.Memory.block_count (M.Memory.texts memory.old) (scripted_in call.entry) buffer.old }
     ensures copy { buffer.new ≡ buffer_after (M.Memory.texts memory.old) (call_in (scripted_in call.entry) buffer.old) buffer.old }
 {
     if let Request::Load(number) = call.head.request {
@@ -115,8 +115,8 @@ fn make_into<M: Memory>(
     place: &mut [u8],
 )
     requires { (length frames.old ≡ 1024) × (length place.old ≡ room_for (scripted_in call)) }
-    ensures left { place.new ≡ left M.Memory.blockCount (M.Memory.texts memory.old) (scripted_in call.entry) place.old }
-    ensures texts { M.Memory.texts memory.new ≡ held_after M.Memory.blockCount (M.Memory.texts memory.old) (scripted_in call.entry) (drop 80 place.old) }
+    ensures left { place.new ≡ left M.Memory.block_count (M.Memory.texts memory.old) (scripted_in call.entry) place.old }
+    ensures texts { M.Memory.texts memory.new ≡ held_after M.Memory.block_count (M.Memory.texts memory.old) (scripted_in call.entry) (drop 80 place.old) }
 {
     let answer = make(memory, call, idle, frames, &mut place[RECORD..]);
     write_record(answer, &mut place[0..RECORD]);
@@ -124,7 +124,7 @@ fn make_into<M: Memory>(
 
 // Makes the calls of a script, until it ends or the answers are full, and says how many bytes of answers were written.
 pub(crate) fn replay_on<M: Memory>(memory: &mut M, script: &[u8], answers: &mut [u8]) -> usize
-    ensures { Replayed M.Memory.blockCount (M.Memory.texts memory.old) script.now answers.old result answers.new }
+    ensures { Replayed M.Memory.block_count (M.Memory.texts memory.old) script.now answers.old result answers.new }
 {
     let (house, _) = Base::open(&NOTHING);
     let idle = Barred::new(Blanks::new(house, false));

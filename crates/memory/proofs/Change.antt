@@ -3,7 +3,8 @@ use Rattle.std.proofs.Common.{◌≡◌, ℕ, ◌+◌, ◌<◌, ◌≤◌, false
 use Rattle.std.specs.Option.{option_map}
 use Rattle.std.specs.Map.{update}
 use Rattle.std.proofs.lemmas.List.{get_or-set_same, get_or-set_other, get_or_past, length-set, length-take}
-use Rattle.std.proofs.lemmas.Bool.{cases_eq, cases_lt, eq-eqb, ne_eqb}
+use Rattle.std.proofs.lemmas.Bool.{cases_eq, cases_lt}
+use Rattle.std.proofs.lemmas.Map.{update_here, update_apart}
 use Rattle.std.proofs.lemmas.Bool.Decides.{nat_tests}
 use Rattle.memory.specs.Texts.{Texts, need, is_number}
 use Rattle.memory.specs.Blocks.{gathered, owned, released, texts_in, Noted, Owns, Rest, Placed}
@@ -15,8 +16,12 @@ abbrev pub texts_of : Blocks → Texts
 texts_of s = texts_in s.blocks s.owners s.lengths
 
 -- what blocks, owners and lengths owe to be a memory
-abbrev pub Fit : List (List ℕ) → List ℕ → List (Option ℕ) → Type 0
-Fit bs os ls = (length ls ≡ 121) × ((get_or ls 0 None ≡ None) × (Noted bs os ls × (Owns bs os ls × (Rest bs os ls × Unit {0}))))
+pub record Fit (bs : List (List ℕ)) (os : List ℕ) (ls : List (Option ℕ)) : Type 0 where
+  pub sized : length ls ≡ 121
+  pub unnumbered : get_or ls 0 None ≡ None
+  pub noted : Noted bs os ls
+  pub owns : Owns bs os ls
+  pub rest : Rest bs os ls
 
 none_past : (s : Blocks) (n : ℕ) → 120 < n → texts_of s n ≡ None
 none_past s n h = simp (get_or_past s.lengths n None (omega (arith, s.sized)))
@@ -99,16 +104,19 @@ module _ {s : Blocks} {n : ℕ} {t : Option (List ℕ)} {l : Option ℕ} {os : L
       omega (arith, s.rest, c.balance)
 
   pub fit_after : Fit bs os lengths
-  fit_after = (
-    length-set s.lengths n l ∙ s.sized,
-    (length_there 0 (λ e. omega (arith, c.numbered.0)) ∙ s.unnumbered, (noted_after, (owns_after, (rest_after, tt)))),
-  )
+  fit_after = record {
+    sized = length-set s.lengths n l ∙ s.sized;
+    unnumbered = length_there 0 (λ e. omega (arith, c.numbered.0)) ∙ s.unnumbered;
+    noted = noted_after;
+    owns = owns_after;
+    rest = rest_after;
+  }
 
   pub text_after : (m : ℕ) → texts_in bs os lengths m ≡ update eqb (texts_of s) n t m
   text_after m =
       elim (cases_eq m n) [
-        | inl e ↦ rw e (text_here ∙ simp (eq-eqb n n refl))
-        | inr ne ↦ text_there m ne ∙ simp (ne_eqb m n ne)
+        | inl e ↦ rw e (text_here ∙ sym (update_here (texts_of s) n t))
+        | inr ne ↦ text_there m ne ∙ sym (update_apart (texts_of s) n t m ne)
       ]
 
 -- n's text is struck out

@@ -1,7 +1,8 @@
 -- What room there is depends on the texts alone.
 use Rattle.std.proofs.Common.{◌≡◌, ℕ, ◌+◌, ◌-◌, ◌<◌, ◌≤◌, Bool, true, false, not, eqb, leb, List, length, is_some, Some, None, Option, refl, ap, arith}
 use Rattle.std.specs.Map.{update}
-use Rattle.std.proofs.lemmas.Bool.{eq-eqb, ne_eqb, and_parts, leb-true}
+use Rattle.std.proofs.lemmas.Bool.{and_parts, leb-true}
+use Rattle.std.proofs.lemmas.Map.{update_here, update_apart}
 use Rattle.std.proofs.lemmas.Bool.Decides.{nat_tests}
 use Rattle.memory.specs.Texts.{Texts, blocks_for, longest_text, need, needs, free, is_number, storable}
 use Rattle.memory.specs.Laws.{StoredTextTakesItsBlocks, StruckTextGivesItsBlocksBack}
@@ -28,8 +29,8 @@ module _ (blocks : ℕ) (s s' : Texts) (same : (n : ℕ) → is_number n ≡ tru
 pub updated_needs : (s : Texts) (n : ℕ) (o : Option (List ℕ)) → is_number n ≡ true → needs (update eqb s n o) + need (s n) ≡ needs s + need o
 updated_needs s n o numbered =
     let within = number_within n numbered in
-    let here : update eqb s n o n ≡ o = simp (eq-eqb n n refl) in
-    let change = sum_to_change (λ m. need (update eqb s n o m)) (λ m. need (s m)) n 120 within.0 within.1 (λ m h. simp (ne_eqb m n h)) in
+    let here : update eqb s n o n ≡ o = update_here s n o in
+    let change = sum_to_change (λ m. need (update eqb s n o m)) (λ m. need (s m)) n 120 within.0 within.1 (λ m h. ap need (update_apart s n o m h)) in
     simp here at change
 
 unneeded : (o : Option (List ℕ)) → not (is_some o) ≡ true → need o ≡ 0

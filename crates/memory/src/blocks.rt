@@ -70,7 +70,7 @@ impl Blocks {
 }
 
 impl Memory for Blocks {
-    ghost blockCount = { all_blocks };
+    ghost block_count = { all_blocks };
 
     ghost texts = { λ s. texts_in s.blocks s.owners s.lengths };
 

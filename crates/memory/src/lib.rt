@@ -35,13 +35,13 @@ pub fn blocks_for(bytes: usize) -> usize
 // caller: what cannot be done is answered, and changes nothing.
 pub trait Memory {
     // How many blocks it has.
-    ghost blockCount: { ℕ };
+    ghost block_count: { ℕ };
 
     // The text under each number, or none.
     ghost texts: { Self → Texts };
 
     // It never holds more than its blocks have room for.
-    ghost bounds: { (x : Self) → needs (texts x) ≤ blockCount };
+    ghost bounds: { (x : Self) → needs (texts x) ≤ block_count };
 
     // The length of the text under a number.
     fn length_of(&self, number: u16) -> Option<u16>
@@ -49,11 +49,11 @@ pub trait Memory {
 
     // The blocks that the texts leave.
     fn free_blocks(&self) -> u16
-        ensures { result ≡ free blockCount (texts self.now) };
+        ensures { result ≡ free block_count (texts self.now) };
 
     // Holds a text under a number from now on; false where that cannot be.
     fn store(&mut self, number: u16, text: &[u8]) -> bool
-        ensures answer { result ≡ storable blockCount (texts self.old) number text.now }
+        ensures answer { result ≡ storable block_count (texts self.old) number text.now }
         ensures held { texts self.new ≡ (if result then holding (texts self.old) number text.now else texts self.old) };
 
     // Strikes out the text under a number; false where there is none.
@@ -69,7 +69,7 @@ pub trait Memory {
 
 // What the texts need and what is free are together every block.
 pub fn needs_and_free_are_all<M: Memory>(memory: &M)
-    ensures { needs (M.Memory.texts memory.now) + free M.Memory.blockCount (M.Memory.texts memory.now) ≡ M.Memory.blockCount }
+    ensures { needs (M.Memory.texts memory.now) + free M.Memory.block_count (M.Memory.texts memory.now) ≡ M.Memory.block_count }
 {}
 
 // No bytes need no block, a block's bytes need one, and a byte more needs two.

@@ -9,7 +9,7 @@ use Rattle.fekhtovi.proofs.replay.load.Goals as goal
 pub returns : goal.returns
 returns g c =
     let a = c.args in
-    let blocks = g.M.Memory.blockCount in
+    let blocks = g.M.Memory.block_count in
     let held = g.M.Memory.texts a.memory.now in
     let f = a.fields in
     let known = sym c.numbered.ensures ∙ c.in-Some.is in

@@ -11,7 +11,7 @@ use Rattle.fekhtovi.proofs.replay.make_into.Goals as goal
 pub returns : goal.returns
 returns g c =
     let a = c.args in
-    let blocks = g.M.Memory.blockCount in
+    let blocks = g.M.Memory.block_count in
     let held = g.M.Memory.texts a.memory.now in
     let place = a.place.now in
     let call = scripted_in a.call in

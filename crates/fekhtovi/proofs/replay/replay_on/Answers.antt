@@ -9,7 +9,7 @@ pub returns-then-room-answers : goal.returns-then-room-answers
 returns-then-room-answers g c =
     let l = c.loop-call in
     let a = c.args in
-    let blocks = g.M.Memory.blockCount in
+    let blocks = g.M.Memory.block_count in
     let held = g.M.Memory.texts l.memory in
     stops blocks (g.M.Memory.texts a.memory.now) held a.script.now a.answers.now l.rest.now l.answers l.written
     l.invariant.1 l.invariant.2 l.invariant.3
@@ -25,7 +25,7 @@ loop-call-preserved g c =
     let a = c.args in
     let w = l.written in
     let room = c.room-for-room.result in
-    let blocks = g.M.Memory.blockCount in
+    let blocks = g.M.Memory.block_count in
     let held = g.M.Memory.texts l.memory in
     let call = scripted_in c.in-Some.call in
     let whole : w + room - w ≡ room = omega arith in
@@ -46,7 +46,7 @@ pub returns : goal.returns
 returns g c =
     let l = c.loop-call in
     let a = c.args in
-    let blocks = g.M.Memory.blockCount in
+    let blocks = g.M.Memory.block_count in
     let held = g.M.Memory.texts l.memory in
     stops blocks (g.M.Memory.texts a.memory.now) held a.script.now a.answers.now l.rest.now l.answers l.written
     l.invariant.1 l.invariant.2 l.invariant.3 (ended c.in-default.ensures)

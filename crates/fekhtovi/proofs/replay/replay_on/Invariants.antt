@@ -8,8 +8,8 @@ invariant-loop-call g l =
     (length l.frames ≡ 1024)
     × (l.written ≤ length l.initial.answers)
     × (drop l.written l.answers ≡ drop l.written l.initial.answers)
-    × ((out : List ℕ) → Replays g.M.Memory.blockCount (g.M.Memory.texts l.memory) l.rest (drop l.written l.initial.answers) out
-    → Replays g.M.Memory.blockCount (g.M.Memory.texts l.initial.memory) l.script l.initial.answers (take l.written l.answers ++ out))
+    × ((out : List ℕ) → Replays g.M.Memory.block_count (g.M.Memory.texts l.memory) l.rest (drop l.written l.initial.answers) out
+    → Replays g.M.Memory.block_count (g.M.Memory.texts l.initial.memory) l.script l.initial.answers (take l.written l.answers ++ out))
 
 abbrev pub decreases-loop-call : goal.decreases-loop-call
 decreases-loop-call g l = length l.rest

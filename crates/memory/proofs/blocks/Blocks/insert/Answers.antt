@@ -13,8 +13,9 @@ place-requires c = record {
 
 pub invariant_of-self : goal.invariant_of-self
 invariant_of-self c =
-    fit_after (stored c.args.self.now c.args.number c.requires.numbered.0 c.requires.unused c.requires.numbered.1
-    c.args.text.now c.place.new.owners c.place.new.blocks c.place.ensures)
+    let f = fit_after (stored c.args.self.now c.args.number c.requires.numbered.0 c.requires.unused c.requires.numbered.1
+    c.args.text.now c.place.new.owners c.place.new.blocks c.place.ensures) in
+    record { sized = f.sized; unnumbered = f.unnumbered; noted = f.noted; owns = f.owns; rest = f.rest }
 
 pub returns : goal.returns
 returns c =

@@ -6,10 +6,13 @@ use Rattle.memory.proofs.blocks.Blocks.new.Goals as goal
 
 pub invariant_of-result : goal.invariant_of-result
 unfolding sum_to
-invariant_of-result c = (
-  refl,
-  (refl, ((λ n. simp (none_noted 121 n)), ((λ n h. unused_owned 512 n h ∙ sym (simp (none_noted 121 n))), (refl, tt)))),
-)
+invariant_of-result c = record {
+  sized = refl;
+  unnumbered = refl;
+  noted = λ n. simp (none_noted 121 n);
+  owns = λ n h. unused_owned 512 n h ∙ sym (simp (none_noted 121 n));
+  rest = refl;
+}
 
 pub returns : goal.returns
 returns c = fun_ext (λ n. simp (none_noted 121 n))
