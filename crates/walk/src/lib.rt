@@ -24,8 +24,8 @@ fn follow<B: Grammar, G: Guide>(
     text: &[u8],
     frames: &mut [Frame],
 ) -> Verdict
-    ensures verdict { result ≡ verdict (meaning grammar.now) (length frames.old) text.now (told guide.old) }
-    ensures behind_last { told guide.new ≡ after (taken result) (told guide.old) }
+    ensures verdict { result ≡ verdict (B.Grammar.meaning grammar.now) (length frames.old) text.now (G.Guide.told guide.old) }
+    ensures behind_last { G.Guide.told guide.new ≡ after (taken result) (G.Guide.told guide.old) }
 {
     let mut walk = Walk::new();
     loop {
@@ -45,10 +45,10 @@ pub fn check<B: Grammar, G: Guide>(
     text: &[u8],
     frames: &mut [Frame],
 ) -> Verdict
-    ensures verdict { result ≡ verdict (meaning grammar.now) (depth_limit (length frames.old)) text.now (told guide.old) }
-    ensures exactly { AcceptedExactly (meaning grammar.now) (depth_limit (length frames.old)) text.now (told guide.old) result }
-    ensures refusals { RefusedWhere (meaning grammar.now) (depth_limit (length frames.old)) text.now (told guide.old) result }
-    ensures behind_last { told guide.new ≡ after (taken result) (told guide.old) }
+    ensures verdict { result ≡ verdict (B.Grammar.meaning grammar.now) (depth_limit (length frames.old)) text.now (G.Guide.told guide.old) }
+    ensures exactly { AcceptedExactly (B.Grammar.meaning grammar.now) (depth_limit (length frames.old)) text.now (G.Guide.told guide.old) result }
+    ensures refusals { RefusedWhere (B.Grammar.meaning grammar.now) (depth_limit (length frames.old)) text.now (G.Guide.told guide.old) result }
+    ensures behind_last { G.Guide.told guide.new ≡ after (taken result) (G.Guide.told guide.old) }
 {
     let limit = frames.len().min(MOST_FRAMES);
     follow(grammar, guide, text, &mut frames[0..limit])

@@ -16,16 +16,16 @@ returns c =
     c.of-verdict-2.ensures
     ∙ (ap of_verdict c.check-2.ensures.verdict
     ∙ answered a.table.now a.blanks a.bars.now a.text.now a.form a.guide.now (length a.frames.now) c.in-Some.form _ _ _
-    (sym c.numbered.ensures ∙ c.in-Some.is) (sym c.open-opened.ensures.answer ∙ c.in-default-opened.is)
+    (sym c.numbered.ensures ∙ c.in-Some.is) (sym c.open-opened.ensures.answer ∙ c.in_default-opened.is)
     (sym c.bar-all.ensures.answer ∙ c.if-not-bar-all.false) meant c.new-guide.ensures)
 
 -- without blanks and bars it is checked against the grammar below
-pub returns-then-is-empty : goal.returns-then-is-empty
-returns-then-is-empty c =
+pub returns-then-is_empty : goal.returns-then-is_empty
+returns-then-is_empty c =
     let a = c.args in
-    let none : a.bars.now ≡ [] = no_numbers _ (sym c.is-empty.ensures ∙ c.if-is-empty.true) in
+    let none : a.bars.now ≡ [] = no_numbers _ (sym c.is_empty.ensures ∙ c.if-is_empty.true) in
     c.of-verdict.ensures
     ∙ (ap of_verdict c.check.ensures
     ∙ answered a.table.now a.blanks a.bars.now a.text.now a.form a.guide.now (length a.frames.now) c.in-Some.form _ _ _
-    (sym c.numbered.ensures ∙ c.in-Some.is) (sym c.open-opened.ensures.answer ∙ c.in-default-opened.is)
+    (sym c.numbered.ensures ∙ c.in-Some.is) (sym c.open-opened.ensures.answer ∙ c.in_default-opened.is)
     (ap (every can_bar) none) (c.open-opened.ensures.grammar ∙ sym (chosen_plain a.table.now _ _ c.if-blanks-eq0.true none)) c.new-guide.ensures)

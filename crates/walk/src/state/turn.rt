@@ -65,7 +65,7 @@ impl Walk {
 
     // The part that is awaited, or None where a leave or the end is. Before any rule is entered, that is the start symbol.
     fn awaited<B: Grammar>(self, grammar: &B, frames: &[Frame]) -> Option<Part>
-        ensures { result ≡ newest (parts_now (meaning grammar.now) frames.now self) }
+        ensures { result ≡ newest (parts_now (B.Grammar.meaning grammar.now) frames.now self) }
     {
         if self.rules == 0 {
             return Some(Part::Symbol(grammar.start()));
@@ -75,7 +75,7 @@ impl Walk {
     }
 
     fn awaited_symbol<B: Grammar>(self, grammar: &B, frames: &[Frame]) -> Option<u16>
-        ensures { result ≡ as_symbol (newest (parts_now (meaning grammar.now) frames.now self)) }
+        ensures { result ≡ as_symbol (newest (parts_now (B.Grammar.meaning grammar.now) frames.now self)) }
     {
         match self.awaited(grammar, frames)? {
             Part::Symbol(symbol) => Some(symbol),
@@ -84,7 +84,7 @@ impl Walk {
     }
 
     fn awaited_leaf<B: Grammar>(self, grammar: &B, frames: &[Frame]) -> Option<Part>
-        ensures { result ≡ as_leaf (newest (parts_now (meaning grammar.now) frames.now self)) }
+        ensures { result ≡ as_leaf (newest (parts_now (B.Grammar.meaning grammar.now) frames.now self)) }
     {
         match self.awaited(grammar, frames)? {
             Part::Symbol(_) => None,
@@ -94,7 +94,7 @@ impl Walk {
 
     fn enter<B: Grammar>(self, grammar: &B, frames: &mut [Frame], rule: u16) -> Progress
         requires { self.events < 16000 }
-        ensures { (text : List ℕ) → Takes (meaning grammar.now) text frames.old self (Event.Enter rule) result frames.new }
+        ensures { (text : List ℕ) → Takes (B.Grammar.meaning grammar.now) text frames.old self (Event.Enter rule) result frames.new }
     {
         let Some(symbol) = self.awaited_symbol(grammar, frames) else {
             return self.refuse(Reason::NotAwaited);
@@ -120,7 +120,7 @@ impl Walk {
 
     fn byte<B: Grammar>(self, grammar: &B, text: &[u8], frames: &mut [Frame], byte: u8) -> Progress
         requires { self.events < 16000 }
-        ensures { Takes (meaning grammar.now) text.now frames.old self (Event.Byte byte) result frames.new }
+        ensures { Takes (B.Grammar.meaning grammar.now) text.now frames.old self (Event.Byte byte) result frames.new }
     {
         let Some(part) = self.awaited_leaf(grammar, frames) else {
             return self.refuse(Reason::NotAwaited);
@@ -142,7 +142,7 @@ impl Walk {
 
     fn leave<B: Grammar>(self, grammar: &B, frames: &[Frame]) -> Progress
         requires { self.events < 16000 }
-        ensures { (text : List ℕ) → Takes (meaning grammar.now) text frames.now self Event.Leave result frames.now }
+        ensures { (text : List ℕ) → Takes (B.Grammar.meaning grammar.now) text frames.now self Event.Leave result frames.now }
     {
         if self.awaited(grammar, frames).is_some() {
             return self.refuse(Reason::NotAwaited);
@@ -166,7 +166,7 @@ impl Walk {
         frames: &mut [Frame],
         event: Event,
     ) -> Progress
-        ensures { Steps (meaning grammar.now) text.now frames.old self (Answer.Next event) result frames.new }
+        ensures { Steps (B.Grammar.meaning grammar.now) text.now frames.old self (Answer.Next event) result frames.new }
     {
         if self.events >= MOST_EVENTS {
             return self.refuse(Reason::TooManyEvents);
@@ -186,7 +186,7 @@ impl Walk {
         frames: &[Frame],
         finish: Finish,
     ) -> Verdict
-        ensures { result ≡ at_finish (state_of (meaning grammar.now) frames.now text.now self) finish }
+        ensures { result ≡ at_finish (state_of (B.Grammar.meaning grammar.now) frames.now text.now self) finish }
     {
         if let Finish::Fault { defect, place } = finish {
             return Err(self.refusal(Reason::GuideFault { defect, place }));
@@ -212,7 +212,7 @@ impl Walk {
         frames: &mut [Frame],
         answer: Answer,
     ) -> Progress
-        ensures { Steps (meaning grammar.now) text.now frames.old self answer result frames.new }
+        ensures { Steps (B.Grammar.meaning grammar.now) text.now frames.old self answer result frames.new }
     {
         match answer {
             Answer::Next(event) => self.event(grammar, text, frames, event),

@@ -14,7 +14,7 @@ returns g c =
     let f = a.fields in
     let known = sym c.numbered.ensures ∙ c.in-Some.is in
     let none = all_yes a.head.form c.in-Some.form f.table.now (pairs_in f.bars.now) _ known
-    (sym c.open-opened.ensures.answer ∙ c.in-default-opened.is) (sym c.bar-pairs.ensures.answer ∙ c.if-not-bar-pairs.false) in
+    (sym c.open-opened.ensures.answer ∙ c.in_default-opened.is) (sym c.bar-pairs.ensures.answer ∙ c.if-not-bar-pairs.false) in
     let meant = as_chosen f.table.now a.head.blanks (pairs_in f.bars.now) c.new-grammar.result.set.flags c.bar-pairs.new.grammar.set.flags
     c.open-opened.result.0 c.new.result c.bar-pairs.new.grammar.below
     c.open-opened.ensures.grammar c.new.ensures (c.bar-pairs.ensures.below ∙ c.new-grammar.ensures.below) c.new-grammar.ensures.none

@@ -49,4 +49,4 @@ returns g c =
     let blocks = g.M.Memory.block_count in
     let held = g.M.Memory.texts l.memory in
     stops blocks (g.M.Memory.texts a.memory.now) held a.script.now a.answers.now l.rest.now l.answers l.written
-    l.invariant.1 l.invariant.2 l.invariant.3 (ended c.in-default.ensures)
+    l.invariant.1 l.invariant.2 l.invariant.3 (ended c.in_default.ensures)

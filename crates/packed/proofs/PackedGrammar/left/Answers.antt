@@ -2,8 +2,8 @@ use Rattle.std.proofs.Common.{Some, sym, ap, ◌∙◌}
 use Rattle.grammar.specs.Meaning.{left_of}
 use Rattle.packed.proofs.PackedGrammar.left.Goals as goal
 
-pub returns-in-err-row : goal.returns-in-err-row
-returns-in-err-row c = c.from-residual.ensures ∙ sym (ap left_of c.in-err-row.ensures)
+pub returns-in_err-row : goal.returns-in_err-row
+returns-in_err-row c = c.from_residual.ensures ∙ sym (ap left_of c.in_err-row.ensures)
 
 pub returns : goal.returns
-returns c = ap Some c.pair.ensures ∙ sym (ap left_of c.in-ok-row.ensures.means)
+returns c = ap Some c.pair.ensures ∙ sym (ap left_of c.in_ok-row.ensures.means)

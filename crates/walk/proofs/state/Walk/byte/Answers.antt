@@ -5,12 +5,12 @@ use Rattle.walk.proofs.Turns.{awaited_fits, read_state}
 use Rattle.walk.proofs.state.Walk.byte.Goals as goal
 use Rattle.walk.proofs.state.Walk.byte.Goals.{then-self-text-via-then-self-text, then-self-text-via-else-self-text+then-text-self}
 
-pub returns-in-default : goal.returns-in-default
-returns-in-default g c =
+pub returns-in_default : goal.returns-in_default
+returns-in_default g c =
     let m = g.B.Grammar.meaning c.args.grammar.now in
     let fs = c.args.frames.now in
     let s = state_of m fs c.args.text.now c.args.self in
-    c.refuse.ensures m _ _ ∙ byte_unawaited s _ (parts_now m fs c.args.self) c.in-default.ensures
+    c.refuse.ensures m _ _ ∙ byte_unawaited s _ (parts_now m fs c.args.self) c.in_default.ensures
 
 pub returns-then-not-allows : goal.returns-then-not-allows
 returns-then-not-allows g c =

@@ -4,20 +4,20 @@ use Rattle.walk.proofs.Opened.{symbol_newest, enter_unawaited, enter_no_rule, en
 use Rattle.walk.proofs.Turns.{open_nodes, awaited_fits, entered_state}
 use Rattle.walk.proofs.state.Walk.enter.Goals as goal
 
-pub returns-in-default : goal.returns-in-default
-returns-in-default g c =
+pub returns-in_default : goal.returns-in_default
+returns-in_default g c =
     let m = g.B.Grammar.meaning c.args.grammar.now in
     let fs = c.args.frames.now in
     let w = c.args.self in
-    λ text. c.refuse.ensures m _ text ∙ enter_unawaited m (length fs) (state_of m fs text w) _ (parts_now m fs w) c.in-default.ensures
+    λ text. c.refuse.ensures m _ text ∙ enter_unawaited m (length fs) (state_of m fs text w) _ (parts_now m fs w) c.in_default.ensures
 
-pub returns-in-default-left : goal.returns-in-default-left
-returns-in-default-left g c =
+pub returns-in_default-left : goal.returns-in_default-left
+returns-in_default-left g c =
     let m = g.B.Grammar.meaning c.args.grammar.now in
     let fs = c.args.frames.now in
     let w = c.args.self in
-    λ text. c.refuse-in-default-left.ensures m _ text
-    ∙ enter_no_rule m (length fs) (state_of m fs text w) _ _ (parts_now m fs w) c.in-Some.ensures c.in-default-left.ensures
+    λ text. c.refuse-in_default-left.ensures m _ text
+    ∙ enter_no_rule m (length fs) (state_of m fs text w) _ _ (parts_now m fs w) c.in-Some.ensures c.in_default-left.ensures
 
 pub returns-then-left-symbol : goal.returns-then-left-symbol
 returns-then-left-symbol g c =
