@@ -15,6 +15,6 @@ handed Free t g told frames b = tt
 
 pub returns : goal.returns
 returns g c =
-    let e = c.answer-to.ensures.sheet in
+    let e = c.answer_to.ensures.sheet in
     let own = handed c.args.request _ _ _ _ _ in
-    record { law = law_holds _ _ _ _ _ _ _ _ _ e own; run = goes_on _ _ _ _ _ _ _ _ _ e own; sheet = e; frames = c.answer-to.ensures.frames }
+    record { law = law_holds _ _ _ _ _ _ _ _ _ e own; run = goes_on _ _ _ _ _ _ _ _ _ e own; sheet = e; frames = c.answer_to.ensures.frames }
