@@ -151,6 +151,7 @@ fn a_link_past_the_next_record(rt: HostRuntime) -> Result<(), Fail> {
 fn links_that_go_back_or_out_of_the_table(rt: HostRuntime) -> Result<(), Fail> {
     let events = [Event::Enter(0), Event::Enter(1)];
     let heap = rt.alloc();
+    // to itself
     refused(
         &rt,
         heap,
@@ -158,8 +159,8 @@ fn links_that_go_back_or_out_of_the_table(rt: HostRuntime) -> Result<(), Fail> {
         &events,
         Defect::BadLink,
         16,
-    )
-    .note("to itself")?;
+    )?;
+    // out of the table
     refused(
         &rt,
         heap,
@@ -167,8 +168,8 @@ fn links_that_go_back_or_out_of_the_table(rt: HostRuntime) -> Result<(), Fail> {
         &events,
         Defect::BadLink,
         16,
-    )
-    .note("out of the table")?;
+    )?;
+    // far out
     refused(
         &rt,
         heap,
@@ -177,7 +178,6 @@ fn links_that_go_back_or_out_of_the_table(rt: HostRuntime) -> Result<(), Fail> {
         Defect::BadLink,
         8,
     )
-    .note("far out")
 }
 
 // Each of them alone: it is asked as record 0.

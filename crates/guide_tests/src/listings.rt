@@ -7,11 +7,10 @@ use std::process::Abort;
 use std::test::Fail;
 
 // The lines are told, and then the line at the offset is refused.
-fn refused_at(rt: &impl Abort, bytes: &[u8], events: &[Event], offset: usize) -> Result<(), Fail> {
+fn refused_at(rt: &impl Abort, bytes: &[u8], events: &[Event], offset: usize) {
     let mut listing = Listing::new(bytes);
     tells(rt, &mut listing, events);
     faults(rt, &mut listing, Defect::BadLine, offset);
-    Ok(())
 }
 
 // A line so many times.
@@ -63,35 +62,48 @@ fn whether_brackets_match_is_not_asked(rt: HostRuntime) {
 }
 
 #[test]
-fn rule_numbers(rt: HostRuntime) -> Result<(), Fail> {
-    refused_at(&rt, b"(00\n", &[], 0).note("leading zero")?;
-    refused_at(&rt, b"(10000\n", &[], 0).note("five digits")?;
-    refused_at(&rt, b"(\n", &[], 0).note("no digit")?;
-    refused_at(&rt, b"(1a\n", &[], 0).note("a letter")?;
-    refused_at(&rt, b"( 1\n", &[], 0).note("a blank")
+fn rule_numbers(rt: HostRuntime) {
+    // leading zero
+    refused_at(&rt, b"(00\n", &[], 0);
+    // five digits
+    refused_at(&rt, b"(10000\n", &[], 0);
+    // no digit
+    refused_at(&rt, b"(\n", &[], 0);
+    // a letter
+    refused_at(&rt, b"(1a\n", &[], 0);
+    // a blank
+    refused_at(&rt, b"( 1\n", &[], 0);
 }
 
 #[test]
-fn hexadecimal_bytes(rt: HostRuntime) -> Result<(), Fail> {
-    refused_at(&rt, b"=4A\n", &[], 0).note("upper case")?;
-    refused_at(&rt, b"=4\n", &[], 0).note("one digit")?;
-    refused_at(&rt, b"=4aa\n", &[], 0).note("three digits")?;
-    refused_at(&rt, b"=4g\n", &[], 0).note("no digit")
+fn hexadecimal_bytes(rt: HostRuntime) {
+    // upper case
+    refused_at(&rt, b"=4A\n", &[], 0);
+    // one digit
+    refused_at(&rt, b"=4\n", &[], 0);
+    // three digits
+    refused_at(&rt, b"=4aa\n", &[], 0);
+    // no digit
+    refused_at(&rt, b"=4g\n", &[], 0);
 }
 
 #[test]
-fn the_place_is_where_the_line_begins(rt: HostRuntime) -> Result<(), Fail> {
+fn the_place_is_where_the_line_begins(rt: HostRuntime) {
+    // something behind a bracket
     refused_at(
         &rt,
         b"(0\n=37\n)x\n",
         &[Event::Enter(0), Event::Byte(0x37)],
         7,
-    )
-    .note("something behind a bracket")?;
-    refused_at(&rt, b"(12\n\n)\n", &[Event::Enter(12)], 4).note("an empty line")?;
-    refused_at(&rt, b"(0\n)", &[Event::Enter(0)], 3).note("no last ending")?;
-    refused_at(&rt, b"(0\n)\r\n", &[Event::Enter(0)], 3).note("a carriage return")?;
-    refused_at(&rt, b"=37\n?\n", &[Event::Byte(0x37)], 4).note("another first byte")
+    );
+    // an empty line
+    refused_at(&rt, b"(12\n\n)\n", &[Event::Enter(12)], 4);
+    // no last ending
+    refused_at(&rt, b"(0\n)", &[Event::Enter(0)], 3);
+    // a carriage return
+    refused_at(&rt, b"(0\n)\r\n", &[Event::Enter(0)], 3);
+    // another first byte
+    refused_at(&rt, b"=37\n?\n", &[Event::Byte(0x37)], 4)
 }
 
 #[test]

@@ -29,5 +29,5 @@ module _ (input text rest : List ℕ) (parted : Parted input text rest) (told : 
 
 pub returns : goal.returns
 returns c =
-    loaded _ _ _ c.split-input.ensures _ c.new-guide.ensures _ _ _ _ _ _ _ c.if-input-gt-MOST-INPUT.false c.new-memory.ensures
+    loaded _ _ _ c.split_input.ensures _ c.new-guide.ensures _ _ _ _ _ _ _ c.if-input-gt-MOST_INPUT.false c.new-memory.ensures
     c.perform-answer.ensures.sheet c.free.ensures
