@@ -9,22 +9,22 @@ use Rattle.fekhtovi.proofs.fekhtovi_check.Goals as goal
 pub returns : goal.returns
 returns c =
     let a = c.args in
-    let meant = as_chosen a.table.now a.blanks a.bars.now c.new-grammar.result.set.flags c.bar-all.new.grammar.set.flags
-    c.open-opened.result.0 c.new.result c.bar-all.new.grammar.below
-    c.open-opened.ensures.grammar c.new.ensures (c.bar-all.ensures.below ∙ c.new-grammar.ensures.below) c.new-grammar.ensures.none
-    (c.bar-all.ensures.barred c.if-not-bar-all.false) in
-    c.of-verdict-2.ensures
+    let meant = as_chosen a.table.now a.blanks a.bars.now c.new-grammar.result.set.flags c.bar_all.new.grammar.set.flags
+    c.open-opened.result.0 c.new.result c.bar_all.new.grammar.below
+    c.open-opened.ensures.grammar c.new.ensures (c.bar_all.ensures.below ∙ c.new-grammar.ensures.below) c.new-grammar.ensures.none
+    (c.bar_all.ensures.barred c.if-not-bar_all.false) in
+    c.of_verdict-2.ensures
     ∙ (ap of_verdict c.check-2.ensures.verdict
     ∙ answered a.table.now a.blanks a.bars.now a.text.now a.form a.guide.now (length a.frames.now) c.in-Some.form _ _ _
     (sym c.numbered.ensures ∙ c.in-Some.is) (sym c.open-opened.ensures.answer ∙ c.in_default-opened.is)
-    (sym c.bar-all.ensures.answer ∙ c.if-not-bar-all.false) meant c.new-guide.ensures)
+    (sym c.bar_all.ensures.answer ∙ c.if-not-bar_all.false) meant c.new-guide.ensures)
 
 -- without blanks and bars it is checked against the grammar below
 pub returns-then-is_empty : goal.returns-then-is_empty
 returns-then-is_empty c =
     let a = c.args in
     let none : a.bars.now ≡ [] = no_numbers _ (sym c.is_empty.ensures ∙ c.if-is_empty.true) in
-    c.of-verdict.ensures
+    c.of_verdict.ensures
     ∙ (ap of_verdict c.check.ensures
     ∙ answered a.table.now a.blanks a.bars.now a.text.now a.form a.guide.now (length a.frames.now) c.in-Some.form _ _ _
     (sym c.numbered.ensures ∙ c.in-Some.is) (sym c.open-opened.ensures.answer ∙ c.in_default-opened.is)

@@ -9,7 +9,7 @@ use Rattle.fekhtovi.proofs.bars.bar_all.Goals as goal
 
 pub returns-then-is-err : goal.returns-then-is-err
 returns-then-is-err g c =
-    let no = err_no _ (ap is_err (sym c.bar.ensures.answer) ∙ sym c.if-is-err.ensures.value) in
+    let no = err_no _ (ap is_err (sym c.bar.ensures.answer) ∙ sym c.if-is_err.ensures.value) in
     record {
       answer = sym (every_stop can_bar _ c.loop-bar.bar-index c.loop-bar.invariant.0 0 c.loop-bar-test.true no);
       below = c.bar.ensures.below ∙ c.loop-bar.invariant.1;
@@ -18,7 +18,7 @@ returns-then-is-err g c =
 
 pub loop-bar-preserved : goal.loop-bar-preserved
 loop-bar-preserved g c =
-    let yes = ok_yes _ (ap is_err (sym c.bar.ensures.answer) ∙ sym c.if-is-err.ensures.value) in (
+    let yes = ok_yes _ (ap is_err (sym c.bar.ensures.answer) ∙ sym c.if-is_err.ensures.value) in (
       every_more can_bar _ c.loop-bar.bar-index c.loop-bar.invariant.0 0 c.loop-bar-test.true yes,
       c.bar.ensures.below ∙ c.loop-bar.invariant.1,
       λ k.

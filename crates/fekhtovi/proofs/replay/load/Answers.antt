@@ -14,11 +14,11 @@ returns g c =
     let f = a.fields in
     let known = sym c.numbered.ensures ∙ c.in-Some.is in
     let none = all_yes a.head.form c.in-Some.form f.table.now (pairs_in f.bars.now) _ known
-    (sym c.open-opened.ensures.answer ∙ c.in_default-opened.is) (sym c.bar-pairs.ensures.answer ∙ c.if-not-bar-pairs.false) in
-    let meant = as_chosen f.table.now a.head.blanks (pairs_in f.bars.now) c.new-grammar.result.set.flags c.bar-pairs.new.grammar.set.flags
-    c.open-opened.result.0 c.new.result c.bar-pairs.new.grammar.below
-    c.open-opened.ensures.grammar c.new.ensures (c.bar-pairs.ensures.below ∙ c.new-grammar.ensures.below) c.new-grammar.ensures.none
-    (c.bar-pairs.ensures.barred c.if-not-bar-pairs.false) in
+    (sym c.open-opened.ensures.answer ∙ c.in_default-opened.is) (sym c.bar_pairs.ensures.answer ∙ c.if-not-bar_pairs.false) in
+    let meant = as_chosen f.table.now a.head.blanks (pairs_in f.bars.now) c.new-grammar.result.set.flags c.bar_pairs.new.grammar.set.flags
+    c.open-opened.result.0 c.new.result c.bar_pairs.new.grammar.below
+    c.open-opened.ensures.grammar c.new.ensures (c.bar_pairs.ensures.below ∙ c.new-grammar.ensures.below) c.new-grammar.ensures.none
+    (c.bar_pairs.ensures.barred c.if-not-bar_pairs.false) in
     let tells = c.new-guide.ensures ∙ sym (ap (λ x. guide_told x f.guide.now) known) in
     let same = same_load a.number f.text.now _ _ _ _ _ _ meant tells (lent c.min-lent.result a.head.frames a.frames.now c.requires c.min-lent.ensures) in
     record {

@@ -19,8 +19,8 @@ returns g c =
     let behind = between_to_end place 80 (length place) (omega arith) in
     record {
       left =
-          filled place buffer c.write-record.new.place (omega (arith, c.requires.1)) (c.make-answer.auto.buffer ∙ (ap length behind ∙ length-drop 80 place))
-          ∙ (ap (λ t. t ++ buffer) (c.write-record.ensures ∙ ap encoded (c.make-answer.ensures.answers ∙ ap (answer_to blocks held call) behind))
+          filled place buffer c.write_record.new.place (omega (arith, c.requires.1)) (c.make-answer.auto.buffer ∙ (ap length behind ∙ length-drop 80 place))
+          ∙ (ap (λ t. t ++ buffer) (c.write_record.ensures ∙ ap encoded (c.make-answer.ensures.answers ∙ ap (answer_to blocks held call) behind))
           ∙ ap (λ t. encoded (answer_to blocks held call (drop 80 place)) ++ t)
           (c.make-answer.ensures.copy ∙ ap (λ b. buffer_after held (call_in call b) b) behind));
       texts = c.make-answer.ensures.texts ∙ ap (held_after blocks held call) behind;

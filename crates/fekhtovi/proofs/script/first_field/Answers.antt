@@ -4,4 +4,4 @@ use Rattle.fekhtovi.proofs.script.first_field.Goals as goal
 
 pub returns : goal.returns
 returns c =
-    field_read c.args.bytes.now c.from-be-bytes-length.result (omega (arith, ltb-false)) c.from-be-bytes-length.ensures c.if-length-rest.false
+    field_read c.args.bytes.now c.from_be_bytes-length.result (omega (arith, ltb-false)) c.from_be_bytes-length.ensures c.if-length-rest.false
