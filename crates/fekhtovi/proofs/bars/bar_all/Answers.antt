@@ -7,8 +7,8 @@ use Rattle.fekhtovi.specs.Bars.{is_in}
 use Rattle.fekhtovi.proofs.Barring.{err_no, ok_yes, one_more, or_none}
 use Rattle.fekhtovi.proofs.bars.bar_all.Goals as goal
 
-pub returns-then-is-err : goal.returns-then-is-err
-returns-then-is-err g c =
+pub returns-then-is_err : goal.returns-then-is_err
+returns-then-is_err g c =
     let no = err_no _ (ap is_err (sym c.bar.ensures.answer) ∙ sym c.if-is_err.ensures.value) in
     record {
       answer = sym (every_stop can_bar _ c.loop-bar.bar-index c.loop-bar.invariant.0 0 c.loop-bar-test.true no);

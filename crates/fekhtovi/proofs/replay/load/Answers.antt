@@ -22,6 +22,6 @@ returns g c =
     let tells = c.new-guide.ensures ∙ sym (ap (λ x. guide_told x f.guide.now) known) in
     let same = same_load a.number f.text.now _ _ _ _ _ _ meant tells (lent c.min-lent.result a.head.frames a.frames.now c.requires c.min-lent.ensures) in
     record {
-      answers = answered_so blocks held _ _ _ _ _ none same c.perform.ensures.performed.sheet.answers c.of-answer.ensures;
-      texts = held_so blocks held _ _ _ _ none same c.perform.ensures.performed.sheet.texts;
+      answers = answered_so blocks held _ _ _ _ _ none same c.perform.ensures.sheet.answers c.of_answer.ensures;
+      texts = held_so blocks held _ _ _ _ none same c.perform.ensures.sheet.texts;
     }
