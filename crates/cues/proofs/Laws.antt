@@ -1,5 +1,5 @@
 -- The law holds of every call of a run.
-use Rattle.std.proofs.Common.{◌≡◌, ℕ, ◌+◌, ◌*◌, ◌<◌, ◌≤◌, Bool, true, false, cond, not, leb, ◌↔◌, List, ◌∷◌, ◌++◌, length, drop, is_some, Some, None, Ok, Err, Option, Result, sym, refl, ap, ◌∙◌, arith}
+use Rattle.std.proofs.Common.{◌≡◌, ℕ, ◌+◌, ◌*◌, ◌<◌, ◌≤◌, Bool, true, false, cond, not, leb, ◌↔◌, List, ◌++◌, length, drop, is_some, Some, None, Ok, Err, Option, sym, refl, ap, ◌∙◌, arith}
 use Rattle.std.proofs.lemmas.Bool.{leb-true, leb-false, le-leb, lt-leb}
 use Rattle.guide.specs.Told.{Told, after}
 use Rattle.memory.specs.Texts.{Texts, blocks_for, longest_text, free as free_in, is_number, copyable, copied}
@@ -10,11 +10,10 @@ use Rattle.tree.proofs.Complete.{accepted_exactly_when_a_tree_is_told, one_tree_
 use Rattle.tree.proofs.Refusals.{refusals_say_where}
 use Rattle.cues.specs.declared.answers.Answer.{Answer}
 use Rattle.cues.specs.declared.answers.Answer.TheVariants as say
-use Rattle.cues.specs.declared.answers.Reason.{Reason}
 use Rattle.cues.specs.declared.answers.Reason.TheVariants.{NumberOutside, AlreadyHeld, TextTooLong, NoRoom, NotHeld}
 use Rattle.cues.specs.Calls.{Load, depth_of, verdict_on, Call, load, clear, fetch, free, History, checked}
-use Rattle.cues.specs.Sheet.{ask, unless, answered, answer, changed, next, buffer_after, guide_after, told_after, length_at, Performs, Run, more}
-use Rattle.cues.specs.Law.{IsLoaded, IsRefused, Leaves, Unused, Lawful, Fits, Shows, answers_taken, OfLoad, OfClear, OfFetch, Promised, Stands, Whole, Law, GoesOn}
+use Rattle.cues.specs.Sheet.{ask, unless, answered, answer, changed, next, buffer_after, guide_after, told_after, length_at, Performs, more}
+use Rattle.cues.specs.Law.{IsRefused, Leaves, Unused, Lawful, answers_taken, OfLoad, OfClear, OfFetch, Promised, Stands, Whole, Law, GoesOn}
 use Rattle.cues.proofs.Ways.{no, of_load, of_fetch, ClearWays, clear_ways, FetchWays, fetch_ways}
 use Rattle.cues.proofs.Runs.{never, lawful_out, lawful_in, ways_of, stands_next, stands}
 

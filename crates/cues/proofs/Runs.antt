@@ -1,8 +1,8 @@
 -- A run leads to just the texts that its history leaves.
-use Rattle.std.proofs.Common.{◌≡◌, ℕ, ◌+◌, ◌-◌, ◌<◌, ◌≤◌, Bool, true, false, not, eqb, leb, ◌⊎◌, ◌↔◌, List, [], ◌∷◌, length, is_some, Some, None, Ok, Err, Option, Result, sym, refl, ap, ◌∙◌, inl, inr, arith}
+use Rattle.std.proofs.Common.{◌≡◌, ℕ, ◌+◌, ◌-◌, ◌≤◌, true, not, leb, List, [], ◌∷◌, length, is_some, Some, None, Ok, Err, Option, Result, sym, refl, ap, ◌∙◌, inl, inr, arith}
 use Rattle.std.proofs.lemmas.Map.{update_here, update_apart}
 use Rattle.std.proofs.lemmas.Bool.{cases_eq, leb-true}
-use Rattle.memory.specs.Texts.{Texts, blocks_for, longest_text, no_texts, holding, without, need, needs, sum_to, free as free_in, is_number}
+use Rattle.memory.specs.Texts.{Texts, blocks_for, longest_text, no_texts, holding, without, need, needs, free as free_in, is_number}
 use Rattle.memory.proofs.Room.{number_within, number, updated_needs}
 use Rattle.memory.proofs.Sums.{sum_to_none}
 use Rattle.tree.specs.declared.verdict.Accepted.{Accepted}

@@ -1,5 +1,5 @@
 -- What each answer says of the questions that led to it.
-use Rattle.std.proofs.Common.{◌≡◌, ℕ, Bool, true, false, ◌↔◌, Some, None, Ok, Err, Option, Result, sym, refl, ap, ◌∙◌, arith}
+use Rattle.std.proofs.Common.{◌≡◌, ℕ, Bool, true, false, ◌↔◌, None, Ok, Err, refl, ap, ◌∙◌}
 use Rattle.tree.specs.declared.verdict.Accepted.{Accepted}
 use Rattle.tree.specs.declared.verdict.Reason.{Reason as CheckReason}
 use Rattle.tree.specs.declared.verdict.Refusal.{Refusal as CheckRefusal}

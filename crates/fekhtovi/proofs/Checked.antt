@@ -1,18 +1,16 @@
 -- Nothing is refused before the check: so the answer is the check's.
-use Rattle.std.proofs.Common.{◌≡◌, ℕ, true, cond, not, eqb, List, Some, None, Ok, Err, Option, Result, sym, refl, ap, ◌∙◌}
+use Rattle.std.proofs.Common.{◌≡◌, ℕ, true, cond, List, Some, None, Ok, sym, ap, ◌∙◌}
 use Rattle.guide.specs.Told.{Told}
 use Rattle.grammar.specs.Meaning.{Meaning}
 use Rattle.grammar.specs.Barred.{can_bar}
-use Rattle.packed.specs.declared.fault.TableFault.{TableFault}
 use Rattle.packed.specs.Check.{every}
 use Rattle.tree.specs.Check.{depth_limit, verdict}
-use Rattle.fekhtovi.specs.declared.answer.FekhtoviAnswer.{FekhtoviAnswer}
 use Rattle.fekhtovi.specs.declared.written.form.Form.{Form}
 use Rattle.fekhtovi.specs.Answer.{refused_with, of_verdict}
 use Rattle.fekhtovi.specs.Base.{base_answer}
 use Rattle.fekhtovi.specs.Form.{form_of}
 use Rattle.fekhtovi.specs.Written.{written_told}
-use Rattle.fekhtovi.specs.Check.{chosen_meaning, guide_told, ask_form, ask_table, ask_bars, first_no, unless, check_answer}
+use Rattle.fekhtovi.specs.Check.{chosen_meaning, guide_told, ask_form, ask_table, first_no, unless, check_answer}
 
 pub all_yes : (form : ℕ) (f : Form) (table bars : List ℕ) (u : Unit {0}) → form_of form ≡ Some f → base_answer table ≡ Ok u → every can_bar bars ≡ true
     → first_no form table bars ≡ None

@@ -1,10 +1,10 @@
 -- Nothing is refused before a load is made: so its answer and its texts are the cue sheet's.
-use Rattle.std.proofs.Common.{◌≡◌, ℕ, ◌-◌, min, List, length, take, Some, None, Option, sym, ap, ◌∙◌, arith, length-take}
+use Rattle.std.proofs.Common.{◌≡◌, ℕ, ◌-◌, min, List, length, take, None, Option, sym, ap, ◌∙◌, arith, length-take}
 use Rattle.guide.specs.Told.{Told}
 use Rattle.grammar.specs.Meaning.{Meaning}
 use Rattle.memory.specs.Texts.{Texts}
 use Rattle.cues.specs.declared.answers.Answer.{Answer}
-use Rattle.cues.specs.Calls.{Load, Call, load, loading}
+use Rattle.cues.specs.Calls.{Load, load, loading}
 use Rattle.cues.specs.Sheet.{answer, next}
 use Rattle.fekhtovi.specs.declared.answer.FekhtoviAnswer.{FekhtoviAnswer}
 use Rattle.fekhtovi.specs.Answer.{of_answer}

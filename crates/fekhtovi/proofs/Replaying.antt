@@ -1,11 +1,11 @@
 -- One call after the other: what is written, and what stays.
-use Rattle.std.proofs.Common.{◌≡◌, ℕ, ◌+◌, ◌-◌, ◌<◌, ◌≤◌, List, [], ◌∷◌, ◌++◌, length, take, drop, Some, None, Option, sym, refl, ap, ◌∙◌, subst, arith}
+use Rattle.std.proofs.Common.{◌≡◌, ℕ, ◌+◌, ◌-◌, ◌<◌, ◌≤◌, List, [], ◌++◌, length, take, drop, Some, sym, ap, ◌∙◌, subst, arith}
 use borrow.Rule.Slice.PartMut.{put_mid, post_of}
 use Rattle.std.proofs.lemmas.List.{append-nil, append_assoc, length-take, length-drop, drop-drop, drop_at, drop_all}
-use Rattle.std.proofs.lemmas.Slice.{between_to_end, take-put_mid, drop-put_mid}
+use Rattle.std.proofs.lemmas.Slice.{take-put_mid, drop-put_mid}
 use Rattle.memory.specs.Texts.{Texts}
 use Rattle.fekhtovi.specs.Script.{Scripted, call_of}
-use Rattle.fekhtovi.specs.Replay.{held_after, room_for, left, Replays, ended, full, goes, Replayed}
+use Rattle.fekhtovi.specs.Replay.{held_after, room_for, left, Replays, full, goes, Replayed}
 
 -- a record and a buffer fill their place
 pub filled : (place buffer head : List ℕ) → 80 ≤ length place → length buffer ≡ length place - 80

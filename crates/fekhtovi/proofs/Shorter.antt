@@ -1,9 +1,8 @@
 -- What is behind the first call of a script is shorter than the script.
-use Rattle.std.proofs.Common.{◌≡◌, ℕ, ◌+◌, ◌-◌, ◌%◌, ◌<◌, ◌≤◌, Bool, true, false, cond, eqb, leb, List, length, take, drop, is_some, Some, None, Option, sym, refl, ap, ◌∙◌, arith, length-drop}
+use Rattle.std.proofs.Common.{◌≡◌, ℕ, ◌%◌, ◌<◌, ◌≤◌, Bool, true, false, cond, eqb, leb, List, length, take, drop, is_some, Some, None, Option, refl, ap, arith, length-drop}
 use Rattle.std.proofs.lemmas.Bool.{false≢true, leb-true}
-use Rattle.cues.specs.declared.requests.Request.{Request}
 use Rattle.fekhtovi.specs.declared.script.Head.{Head}
-use Rattle.fekhtovi.specs.Script.{Read, Handed, Scripted, handed, scripted, then, byte_at, pair_at, request_of, head_of, first_of, field_of, fields_of, call_of}
+use Rattle.fekhtovi.specs.Script.{Handed, Scripted, then, byte_at, pair_at, request_of, head_of, first_of, field_of, fields_of, call_of}
 
 -- both steps of a reading were made
 then_some : {A B : Type 0} (o : Option A) (f : A → Option B) (y : B) → then o f ≡ Some y → (x : A) × ((o ≡ Some x) × (f x ≡ Some y))

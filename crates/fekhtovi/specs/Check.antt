@@ -1,5 +1,5 @@
 -- The check as a caller of the library has it: everything comes as bytes and numbers.
-use Rattle.std.specs.Prelude.{ℕ, Bool, true, false, cond, not, List, Some, None, Ok, Err, Option, Result, ◌==◌}
+use Rattle.std.specs.Prelude.{ℕ, cond, not, List, Some, None, Ok, Err, Option, Result, ◌==◌}
 use Rattle.guide.specs.declared.Finish.TheVariants.{End}
 use Rattle.guide.specs.Told.{Told, finally}
 use Rattle.grammar.specs.Meaning.{Meaning}

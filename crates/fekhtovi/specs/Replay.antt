@@ -1,5 +1,5 @@
 -- A replay: the calls of a script on one memory, and what they leave in the bytes for their answers.
-use Rattle.std.specs.Prelude.{◌≡◌, ℕ, ◌+◌, ◌*◌, ◌/◌, ◌%◌, ◌<◌, ◌≤◌, min, List, [], ◌∷◌, ◌++◌, length, take, drop, Some, None, Option}
+use Rattle.std.specs.Prelude.{◌≡◌, ℕ, ◌+◌, ◌<◌, ◌≤◌, min, List, [], ◌++◌, length, take, drop, Some, None, Option}
 use Rattle.memory.specs.Texts.{Texts}
 use Rattle.cues.specs.declared.requests.Request.{Request}
 use Rattle.cues.specs.declared.requests.Request.TheVariants as ask

@@ -1,5 +1,5 @@
 -- A tree's own link table tells its walk, and a table that tells the walk is the tree's own.
-use Rattle.std.proofs.Common.{◌≡◌, ℕ, zero, suc, ◌+◌, ◌*◌, ◌%◌, ◌<◌, ◌≤◌, Bool, true, false, cond, ◌&&◌, eqb, ltb, leb, List, [], ◌∷◌, ◌++◌, length, sym, refl, ap, ◌∙◌, append_assoc, append-nil, add-zero, arith}
+use Rattle.std.proofs.Common.{◌≡◌, ℕ, zero, suc, ◌+◌, ◌%◌, ◌<◌, ◌≤◌, Bool, true, false, cond, ◌&&◌, eqb, ltb, leb, List, [], ◌∷◌, ◌++◌, length, sym, refl, ap, ◌∙◌, append_assoc, append-nil, add-zero, arith}
 use Rattle.std.proofs.lemmas.Bool.{cond-true, eqb-true, eq-eqb, lt-ltb}
 use Rattle.std.proofs.lemmas.Bool.Decides.{nat_tests as splits}
 use Rattle.guide.specs.declared.Defect.{Defect}
@@ -12,8 +12,8 @@ use Rattle.guide.specs.declared.records.Record.TheVariants.{Rule, Leaf, Malforme
 use Rattle.guide.specs.LinkTable.{records, fault_at, ask, reading, follow, begin, link_table}
 use Rattle.guide.specs.Told.{Told, finally, ◌and◌, ahead, tells}
 use Rattle.tree.specs.Tree.{Tree, leaf, node, Children, no_more, ◌then◌, walk, walk_all, depth, depth_all}
-use Rattle.forms.specs.Laws.{Means, Alone, LinkTableAsWritten}
-use Rattle.forms.specs.Writable.{nodes, nodes_all, Writable}
+use Rattle.forms.specs.Laws.{Means, LinkTableAsWritten}
+use Rattle.forms.specs.Writable.{nodes, nodes_all}
 use Rattle.forms.specs.Writing.{first_link, link_table_of}
 use Rattle.forms.proofs.Clashes.{finish_event, fault_end, enter_leave, byte_leave, enter_byte, same_event, same_rest}
 use Rattle.forms.proofs.Records.{records_of, records_all, TableOf, table_back, table_of}

@@ -12,11 +12,11 @@ use Rattle.guide.specs.declared.Finish.TheVariants.{End, Fault}
 use Rattle.guide.specs.Listing.{Lines, unended, ended, longer, lines, rule_number, hex_byte, enters, reads, leaves, line_event, telling, from_lines, listing}
 use Rattle.guide.specs.Told.{Told, finally, ◌and◌, tells, EventInRange}
 use Rattle.tree.specs.Tree.{Tree, leaf, node, Children, no_more, ◌then◌, walk, walk_all}
-use Rattle.forms.specs.Laws.{Means, Alone, ListingAsWritten}
-use Rattle.forms.specs.Writable.{nodes, nodes_all, ValuesInRange, AllValuesInRange, Writable}
-use Rattle.forms.specs.Writing.{line_of, lines_of, listing_of}
+use Rattle.forms.specs.Laws.{ListingAsWritten}
+use Rattle.forms.specs.Writable.{nodes, nodes_all, ValuesInRange, AllValuesInRange}
+use Rattle.forms.specs.Writing.{line_of, lines_of}
 use Rattle.forms.proofs.Clashes.{none_some, finish_event, fault_end}
-use Rattle.forms.proofs.Numbers.{RuleDigits, rule_back, rule_forth, written_digits, byte_back, byte_forth, hex_plain}
+use Rattle.forms.proofs.Numbers.{rule_back, rule_forth, written_digits, byte_back, byte_forth, hex_plain}
 
 -- From the events back to the bytes.
 -- the bytes of lines

@@ -1,5 +1,5 @@
 -- The places of a link table's faults.
-use Rattle.std.proofs.Common.{◌≡◌, ℕ, zero, suc, ◌+◌, ◌%◌, Bool, true, false, cond, ◌&&◌, eqb, ltb, leb, List, [], ◌∷◌, length, refl}
+use Rattle.std.proofs.Common.{ℕ, zero, suc, ◌+◌, ◌%◌, Bool, true, false, ◌&&◌, eqb, ltb, leb, List, [], ◌∷◌, length, refl}
 use Rattle.std.proofs.lemmas.Bool.{cond_both}
 use Rattle.guide.specs.declared.Defect.{Defect}
 use Rattle.guide.specs.declared.Defect.TheVariants.{TableLength, BadLink, TooManyOpen}

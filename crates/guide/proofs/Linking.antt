@@ -1,5 +1,5 @@
 -- What the reader of a link table goes by.
-use Rattle.std.proofs.Common.{◌≡◌, ℕ, zero, suc, ◌+◌, ◌-◌, ◌*◌, ◌%◌, ◌<◌, ◌≤◌, Bool, true, false, cond, ◌&&◌, eqb, ltb, leb, ◌⊎◌, List, [], ◌∷◌, length, get_or, take, drop, Some, None, Option, sym, refl, ap, ◌∙◌, subst, inl, inr, arith}
+use Rattle.std.proofs.Common.{◌≡◌, ℕ, zero, suc, ◌+◌, ◌-◌, ◌*◌, ◌%◌, ◌<◌, ◌≤◌, Bool, true, false, cond, eqb, ltb, ◌⊎◌, List, [], ◌∷◌, length, get_or, take, drop, Some, None, Option, sym, refl, ap, ◌∙◌, inl, inr, arith}
 use Rattle.std.proofs.lemmas.List.{take_rest, length-drop}
 use Rattle.std.proofs.lemmas.Bool.{lt-ltb, le-ltb, cond-true, cond-false, eq-eqb, ne_eqb, le-leb, lt-leb, and_from, and_left, and_right}
 use Rattle.guide.specs.declared.Answer.TheVariants.{Next, Done}
@@ -12,7 +12,7 @@ use Rattle.guide.specs.declared.records.Record.TheVariants.{Rule, Leaf, Malforme
 use Rattle.guide.specs.declared.steps.Phase.{Phase}
 use Rattle.guide.specs.declared.steps.Phase.TheVariants.{WrongLength, Begin, Walk}
 use Rattle.guide.specs.declared.steps.Step.{Step}
-use Rattle.guide.specs.declared.steps.Step.TheVariants.{Stop, Close, Open, Tell}
+use Rattle.guide.specs.declared.steps.Step.TheVariants.{Stop, Close, Open}
 use Rattle.guide.specs.LinkTable.{field, record_of, records, fault_at, ask, reading, follow, begin, link_table}
 use Rattle.guide.specs.LinkTableBounds.{by_records}
 use Rattle.guide.specs.Stack.{held}

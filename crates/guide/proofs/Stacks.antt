@@ -1,10 +1,10 @@
 -- What push, top and pop do to the entries that are held.
-use Rattle.std.proofs.Common.{◌≡◌, ℕ, ◌+◌, ◌-◌, ◌<◌, ◌≤◌, min, ◌⊎◌, List, [], ◌∷◌, ◌++◌, reverse, length, get_or, take, set, sym, refl, ap, ◌∙◌, inl, inr, arith, length-take, take_all}
+use Rattle.std.proofs.Common.{◌≡◌, ℕ, ◌+◌, ◌-◌, ◌<◌, min, List, [], ◌∷◌, reverse, length, get_or, take, set, sym, ap, ◌∙◌, inl, inr, arith, length-take, take_all}
 use mathlib.Core.List.{reverse-append}
 use lib.Seq.{take-length}
 use Rattle.std.proofs.lemmas.List.{take_more, take_more_set, length-reverse}
 use Rattle.std.proofs.lemmas.Bool.{cases_lt}
-use Rattle.guide.specs.Stack.{held, newest}
+use Rattle.guide.specs.Stack.{held}
 
 -- no more slots are held than there are
 pub held_capped : {A : Type 0} (s : List A) (n : ℕ) → held s n ≡ held s (min n (length s))

@@ -1,15 +1,15 @@
 -- The events of any link table are in range. (A ghost member cites it, so it stands here and not in proofs/.)
-use Rattle.std.specs.Prelude.{◌≡◌, ℕ, zero, suc, ◌+◌, ◌<◌, ◌≤◌, Bool, true, false, cond, ◌&&◌, List, [], ◌∷◌, length, ◌==◌, nat_le, nat_lt, refl}
-use Rattle.std.proofs.Common.{sym, ap, subst, ◌∙◌, arith}
+use Rattle.std.specs.Prelude.{◌≡◌, ℕ, zero, suc, ◌+◌, ◌<◌, ◌≤◌, Bool, true, false, ◌&&◌, List, [], ◌∷◌, length, ◌==◌, nat_le, nat_lt, refl}
+use Rattle.std.proofs.Common.{sym, subst, arith}
 use Rattle.std.proofs.lemmas.Bool.{and_parts, leb-true, cond_both}
 use Rattle.guide.specs.declared.Defect.{Defect}
 use Rattle.guide.specs.declared.Defect.TheVariants.{TooManyOpen, BadLink}
-use Rattle.guide.specs.declared.Event.TheVariants.{Enter, Byte, Leave}
+use Rattle.guide.specs.declared.Event.TheVariants.{Enter}
 use Rattle.guide.specs.declared.records.Record.{Record}
 use Rattle.guide.specs.declared.records.Record.TheVariants.{Rule, Leaf, Malformed}
 use Rattle.guide.specs.declared.steps.Phase.{Phase}
 use Rattle.guide.specs.declared.steps.Phase.TheVariants.{WrongLength, Begin, Walk}
-use Rattle.guide.specs.Told.{Told, finally, ◌and◌, InRange}
+use Rattle.guide.specs.Told.{Told, ◌and◌, InRange}
 use Rattle.guide.specs.LinkTable.{field, record_of, records, ask, reading, follow, begin}
 use Rattle.guide.specs.Steps.{link_table_from}
 

@@ -1,12 +1,11 @@
 -- The events of any listing are in range. (A ghost member cites it, so it stands here and not in proofs/.)
-use Rattle.std.specs.Prelude.{◌≡◌, ℕ, ◌+◌, ◌-◌, ◌*◌, ◌<◌, ◌≤◌, Bool, true, false, cond, ◌&&◌, List, [], ◌∷◌, length, drop, IfSome, Some, None, Option, ◌==◌, nat_le, refl}
-use Rattle.std.proofs.Common.{sym, ap, ◌∙◌, arith}
+use Rattle.std.specs.Prelude.{◌≡◌, ℕ, ◌+◌, ◌-◌, ◌*◌, ◌<◌, ◌≤◌, true, ◌&&◌, List, [], ◌∷◌, length, drop, IfSome, Some, None, Option, ◌==◌, nat_le}
+use Rattle.std.proofs.Common.{arith}
 use Rattle.std.proofs.lemmas.Bool.{and_parts, leb-true, cond_both}
-use Rattle.guide.specs.declared.Defect.TheVariants.{ListingTooLong, BadLine}
+use Rattle.guide.specs.declared.Defect.TheVariants.{ListingTooLong}
 use Rattle.guide.specs.declared.Event.{Event}
-use Rattle.guide.specs.declared.Event.TheVariants.{Enter, Byte, Leave}
-use Rattle.guide.specs.declared.Finish.TheVariants.{End, Fault}
-use Rattle.guide.specs.Told.{Told, finally, ◌and◌, EventInRange, InRange}
+use Rattle.guide.specs.declared.Finish.TheVariants.{Fault}
+use Rattle.guide.specs.Told.{Told, finally, EventInRange, InRange}
 use Rattle.guide.specs.Listing.{Lines, unended, ended, lines, is_digit, decimal, rule_number, hex_digit, hex_pair, hex_byte, enters, reads, leaves, line_event, telling, from_lines, listing_from}
 
 -- P holds of the value, if there is one

@@ -1,5 +1,5 @@
 -- Gathering a text: a loop that goes down the blocks and copies the pieces that it meets.
-use Rattle.std.proofs.Common.{◌≡◌, ℕ, ◌+◌, ◌-◌, ◌<◌, ◌≤◌, min, cond, eqb, List, [], ◌∷◌, ◌++◌, length, get_or, take, drop, sym, refl, ap, ◌∙◌, inl, inr, append-nil, arith, rules}
+use Rattle.std.proofs.Common.{◌≡◌, ℕ, ◌+◌, ◌-◌, ◌<◌, ◌≤◌, min, cond, eqb, List, [], ◌++◌, length, get_or, take, drop, sym, ap, ◌∙◌, inl, inr, append-nil, arith, rules}
 use borrow.Rule.Slice.PartMut.{put_mid}
 use lib.Seq.{take-append-add}
 use Rattle.std.proofs.lemmas.List.{drop_more, length-append, length-take, take-append-le, take_all, places}

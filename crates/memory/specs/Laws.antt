@@ -1,5 +1,5 @@
 -- What is proved of every memory, whatever its blocks hold.
-use Rattle.std.specs.Prelude.{◌≡◌, ℕ, ◌+◌, ◌≤◌, Bool, true, List, [], length, Some, None}
+use Rattle.std.specs.Prelude.{◌≡◌, ℕ, ◌+◌, ◌≤◌, true, List, [], length, Some, None}
 use Rattle.memory.specs.Texts.{Texts, blocks_for, no_texts, holding, without, needs, free, is_number, storable}
 
 -- nothing needs no block, a whole block's bytes need that block, and one byte more needs another

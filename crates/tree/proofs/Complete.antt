@@ -1,5 +1,5 @@
 -- The walk of a parse tree within the limits is accepted.
-use Rattle.std.proofs.Common.{◌≡◌, ℕ, ◌+◌, ◌*◌, ◌<◌, ◌≤◌, max, Bool, true, false, eqb, ltb, List, [], ◌∷◌, ◌++◌, length, Some, sym, refl, ap, ◌∙◌, append_assoc, append-nil, arith, length-append}
+use Rattle.std.proofs.Common.{◌≡◌, ℕ, ◌+◌, ◌*◌, ◌<◌, ◌≤◌, Bool, true, List, [], ◌∷◌, ◌++◌, length, Some, sym, refl, ap, ◌∙◌, append_assoc, append-nil, arith, length-append}
 use Rattle.std.proofs.lemmas.Bool.{eq-eqb, lt-ltb}
 use Rattle.guide.specs.declared.Event.{Event}
 use Rattle.guide.specs.declared.Event.TheVariants.{Enter, Byte, Leave}
@@ -13,7 +13,7 @@ use Rattle.tree.specs.declared.verdict.Reason.TheVariants.{TooManyEvents, OtherS
 use Rattle.tree.specs.Tree.{Tree, leaf, node, Children, no_more, ◌then◌, walk, walk_all, spells, spell_all, rules, rules_all, depth, depth_all}
 use Rattle.tree.specs.Parse.{Matches, MatchAll}
 use Rattle.tree.specs.Verdict.{accepted}
-use Rattle.tree.specs.Check.{State, Progress, going, ask, begin, entered, enter_rule, on_byte, of_kind, on_event, run, verdict}
+use Rattle.tree.specs.Check.{State, Progress, going, ask, entered, enter_rule, on_byte, of_kind, run, verdict}
 use Rattle.tree.specs.Theorems.{AcceptedExactlyWhenATreeIsTold, OneTreeIsTold, EveryParseTreeIsAccepted}
 use Rattle.tree.proofs.Walks.{walk_length, walk_determines_tree}
 use Rattle.tree.proofs.Sound.{state, accepted_path, TreeTold, accepted_told}

@@ -1,5 +1,5 @@
 -- What a refusal says of the guide, and how many answers a verdict took.
-use Rattle.std.proofs.Common.{◌≡◌, ℕ, ◌+◌, ◌<◌, ◌≤◌, Bool, true, false, eqb, ltb, ◌↔◌, List, [], ◌∷◌, ◌++◌, length, Some, None, Option, sym, refl, ap, ◌∙◌, subst, append_assoc, arith, length-append}
+use Rattle.std.proofs.Common.{◌≡◌, ℕ, ◌+◌, Bool, true, false, eqb, ltb, ◌↔◌, List, [], ◌∷◌, ◌++◌, length, Some, None, Option, sym, refl, ap, ◌∙◌, subst, append_assoc, arith, length-append}
 use Rattle.std.proofs.lemmas.Bool.{eqb-true}
 use Rattle.guide.specs.declared.Answer.{Answer}
 use Rattle.guide.specs.declared.Answer.TheVariants.{Next, Done}
@@ -15,8 +15,8 @@ use Rattle.grammar.specs.Meaning.{Rule, Meaning, allows}
 use Rattle.tree.specs.declared.verdict.Reason.{Reason}
 use Rattle.tree.specs.declared.verdict.Reason.TheVariants.{GuideFault, TooManyEvents, NotAwaited, NoSuchRule, OtherSymbol, TooDeep, ByteNotAllowed, ByteNotNext, TextLeft}
 use Rattle.tree.specs.Verdict.{Verdict, refusal, refused, taken}
-use Rattle.tree.specs.Check.{State, Progress, going, over, ask, begin, entered, read, enter_rule, on_enter, next_byte, on_byte, on_leave, of_kind, on_event, at_end, at_finish, step, run, verdict}
-use Rattle.tree.specs.Theorems.{bytes_in, RefusedThere, RefusalsSayWhere}
+use Rattle.tree.specs.Check.{State, Progress, going, over, ask, begin, entered, read, enter_rule, on_enter, next_byte, on_byte, on_leave, of_kind, on_event, at_end, at_finish, step, run}
+use Rattle.tree.specs.Theorems.{bytes_in, RefusalsSayWhere}
 
 -- One event.
 -- the byte that an event tells

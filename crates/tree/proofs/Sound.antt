@@ -1,5 +1,5 @@
 -- What a check accepts is the walk of a parse tree: from the rest of an accepted run come the trees that the rest tells.
-use Rattle.std.proofs.Common.{◌≡◌, ℕ, suc, ◌+◌, ◌*◌, ◌<◌, ◌≤◌, max, Bool, true, false, eqb, ltb, List, [], ◌∷◌, ◌++◌, length, Some, None, Ok, Err, Option, sym, refl, ap, ◌∙◌, subst, append_assoc, append-nil, arith}
+use Rattle.std.proofs.Common.{◌≡◌, ℕ, suc, ◌+◌, ◌*◌, ◌<◌, ◌≤◌, Bool, true, false, eqb, ltb, List, [], ◌∷◌, ◌++◌, length, Some, None, Ok, Err, Option, sym, refl, ap, ◌∙◌, subst, append_assoc, append-nil, arith}
 use Rattle.std.proofs.lemmas.Bool.{eqb-true, ltb-true}
 use Rattle.guide.specs.declared.Event.{Event}
 use Rattle.guide.specs.declared.Event.TheVariants.{Enter, Byte, Leave}
@@ -14,7 +14,7 @@ use Rattle.tree.specs.declared.verdict.Reason.TheVariants.{GuideFault, TooManyEv
 use Rattle.tree.specs.Tree.{Tree, leaf, node, Children, no_more, ◌then◌, walk, walk_all, spells, spell_all, rules, rules_all, depth_all}
 use Rattle.tree.specs.Parse.{MatchAll}
 use Rattle.tree.specs.Verdict.{Verdict, accepted, refused}
-use Rattle.tree.specs.Check.{State, Progress, going, over, ask, begin, entered, read, enter_rule, on_enter, next_byte, on_byte, on_leave, of_kind, on_event, at_finish, run, verdict}
+use Rattle.tree.specs.Check.{State, Progress, going, ask, begin, entered, read, enter_rule, on_enter, next_byte, on_byte, on_leave, of_kind, at_finish, run, verdict}
 use Rattle.tree.specs.Theorems.{TellsTree}
 use Rattle.tree.proofs.Walks.{walk_length}
 

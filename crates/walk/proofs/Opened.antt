@@ -1,19 +1,16 @@
 -- The rows of the open nodes, as the frames are pushed, advanced and popped.
-use Rattle.std.proofs.Common.{◌≡◌, ℕ, zero, suc, ◌+◌, ◌-◌, ◌<◌, ◌≤◌, min, Bool, true, false, cond, eqb, ltb, ◌⊎◌, List, [], ◌∷◌, length, get_or, drop, set, is_some, IfSome, Some, None, Option, sym, refl, ap, ◌∙◌, subst, inl, inr, add-one, arith, length-set, drop_of_length-le, drop-cons}
+use Rattle.std.proofs.Common.{◌≡◌, ℕ, zero, suc, ◌+◌, ◌<◌, ◌≤◌, min, Bool, true, false, ltb, ◌⊎◌, List, [], ◌∷◌, length, get_or, drop, is_some, IfSome, Some, None, Option, sym, refl, ap, ◌∙◌, inl, inr, add-one, arith, length-set, drop_of_length-le, drop-cons}
 use Rattle.std.specs.Option.{option_map}
 use Rattle.std.specs.List.{slice_get}
 use Rattle.std.proofs.lemmas.Bool.{eq-eqb, ne_eqb, lt-ltb, le-ltb}
-use Rattle.guide.specs.declared.Event.{Event}
-use Rattle.guide.specs.declared.Event.TheVariants.{Enter, Byte, Leave}
-use Rattle.guide.specs.declared.Finish.TheVariants.{End}
 use Rattle.guide.specs.Stack.{held, newest, Pushed, Popped}
-use Rattle.guide.proofs.Stacks.{held_capped, held_length, held_none}
+use Rattle.guide.proofs.Stacks.{held_capped}
 use Rattle.grammar.specs.declared.Part.{Part}
 use Rattle.grammar.specs.declared.Part.TheVariants.{Symbol, Range, Except}
 use Rattle.grammar.specs.Meaning.{Rule, Meaning, Bounded, LawfulRule, allows, left_of, part_of}
 use Rattle.tree.specs.declared.verdict.Reason.{Reason}
-use Rattle.tree.specs.declared.verdict.Reason.TheVariants.{NotAwaited, NoSuchRule, OtherSymbol, TooDeep, ByteNotAllowed, ByteNotNext, TextLeft}
-use Rattle.tree.specs.Verdict.{accepted, refused}
+use Rattle.tree.specs.declared.verdict.Reason.TheVariants.{NotAwaited, NoSuchRule, OtherSymbol, TooDeep, ByteNotAllowed, ByteNotNext}
+use Rattle.tree.specs.Verdict.{refused}
 use Rattle.tree.specs.Check.{State, Progress, going, no, ask, entered, read, left, enter_rule, on_enter, next_byte, on_byte, on_leave, at_end}
 use Rattle.walk.specs.declared.state.Frame.{Frame}
 use Rattle.walk.specs.Rows.{parts_of, row, rows, all_rows, first_row, other_rows, as_symbol, as_leaf, advanced, NextFits}

@@ -1,15 +1,15 @@
 -- A walk from one answer to the next.
-use Rattle.std.proofs.Common.{◌≡◌, ℕ, ◌+◌, ◌<◌, ◌≤◌, min, List, [], ◌∷◌, length, drop, Some, None, sym, refl, ap, ◌∙◌, add-one, arith, drop_of_length-le, drop-cons}
+use Rattle.std.proofs.Common.{◌≡◌, ℕ, ◌+◌, ◌<◌, ◌≤◌, min, List, [], ◌∷◌, length, drop, Some, ap, ◌∙◌, add-one, arith, drop_of_length-le, drop-cons}
 use Rattle.guide.specs.Stack.{held, newest}
 use Rattle.guide.proofs.Stacks.{held_length, held_none}
 use Rattle.grammar.specs.declared.Part.{Part}
 use Rattle.grammar.specs.Meaning.{Meaning, Bounded}
 use Rattle.tree.specs.declared.verdict.Reason.TheVariants.{TextLeft}
 use Rattle.tree.specs.Verdict.{accepted, refused}
-use Rattle.tree.specs.Check.{State, Progress, going, entered, read, left, at_end}
+use Rattle.tree.specs.Check.{going, entered, read, at_end}
 use Rattle.walk.specs.declared.state.Frame.{Frame}
 use Rattle.walk.specs.declared.state.Walk.{Walk}
-use Rattle.walk.specs.Rows.{parts_of, row, rows, all_rows, first_row, other_rows, parts_now, older_now, state_of, advanced, NextFits}
+use Rattle.walk.specs.Rows.{parts_of, rows, all_rows, first_row, other_rows, parts_now, older_now, state_of, advanced, NextFits}
 use Rattle.walk.proofs.Opened.{rest, rows_advanced, older_length, rows_inside, next_fits}
 
 -- the same but for how its rows are written

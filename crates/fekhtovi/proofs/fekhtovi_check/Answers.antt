@@ -1,4 +1,4 @@
-use Rattle.std.proofs.Common.{◌≡◌, [], length, sym, refl, ap, ◌∙◌}
+use Rattle.std.proofs.Common.{◌≡◌, [], length, sym, ap, ◌∙◌}
 use Rattle.grammar.specs.Barred.{can_bar}
 use Rattle.packed.specs.Check.{every}
 use Rattle.fekhtovi.specs.Answer.{of_verdict}

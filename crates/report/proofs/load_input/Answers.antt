@@ -1,15 +1,15 @@
-use Rattle.std.proofs.Common.{◌≡◌, ℕ, ◌≤◌, List, length, sym, refl, ap, ◌∙◌, arith}
+use Rattle.std.proofs.Common.{◌≡◌, ℕ, ◌≤◌, List, length, sym, ap, ◌∙◌}
 use Rattle.std.proofs.lemmas.Bool.{cond-true, le-leb}
 use Rattle.guide.specs.Told.{Told}
 use Rattle.guide.specs.Listing.{listing}
 use Rattle.grammar.specs.House.{house_meaning}
 use Rattle.memory.specs.Texts.{Texts, no_texts, free as free_in}
 use Rattle.cues.specs.declared.answers.Answer.{Answer}
-use Rattle.cues.specs.Calls.{Call, load, loading}
+use Rattle.cues.specs.Calls.{load, loading}
 use Rattle.cues.specs.Sheet.{answer, next, Performs}
 use Rattle.report.specs.declared.line.Outcome.TheVariants.{Answered}
 use Rattle.report.specs.Cueline.{call_for, outcome}
-use Rattle.report.specs.Input.{text_in, listing_in, Parted}
+use Rattle.report.specs.Input.{text_in, Parted}
 use Rattle.report.proofs.load_input.Goals as goal
 
 -- the load that was performed is the one that the input asks for

@@ -1,4 +1,4 @@
-use Rattle.std.proofs.Common.{◌≡◌, ℕ, length, sym, refl, ap, ◌∙◌}
+use Rattle.std.proofs.Common.{length, sym, ap}
 use Rattle.guide.specs.Told.{after}
 use Rattle.tree.specs.Check.{State, going, run}
 use Rattle.walk.specs.Rows.{state_of}

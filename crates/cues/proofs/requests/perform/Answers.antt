@@ -1,4 +1,4 @@
-use Rattle.std.proofs.Common.{◌≡◌, ℕ, List, refl}
+use Rattle.std.proofs.Common.{ℕ, List, refl}
 use Rattle.guide.specs.Told.{Told}
 use Rattle.grammar.specs.Meaning.{Meaning}
 use Rattle.cues.specs.Requests.{call_of}

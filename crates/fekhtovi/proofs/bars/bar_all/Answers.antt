@@ -1,4 +1,4 @@
-use Rattle.std.proofs.Common.{◌+◌, true, false, ◌||◌, get_or, drop, is_err, sym, ap, ◌∙◌}
+use Rattle.std.proofs.Common.{◌+◌, ◌||◌, get_or, drop, is_err, sym, ap, ◌∙◌}
 use Rattle.std.proofs.lemmas.Bool.{false≢true}
 use Rattle.std.proofs.lemmas.List.{at_drop_more, at_drop_all}
 use Rattle.grammar.specs.Barred.{can_bar, is_barred}

@@ -1,4 +1,4 @@
-use Rattle.std.proofs.Common.{◌≡◌, ◌*◌, length, take}
+use Rattle.std.proofs.Common.{◌≡◌, ◌*◌, take}
 use Rattle.fekhtovi.specs.Record.{all_bytes}
 use Rattle.fekhtovi.proofs.record.put.Given as goal
 

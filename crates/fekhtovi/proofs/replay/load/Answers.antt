@@ -1,4 +1,4 @@
-use Rattle.std.proofs.Common.{◌≡◌, sym, ap, ◌∙◌}
+use Rattle.std.proofs.Common.{sym, ap, ◌∙◌}
 use Rattle.fekhtovi.specs.Check.{guide_told}
 use Rattle.fekhtovi.specs.Pairs.{pairs_in}
 use Rattle.fekhtovi.proofs.Checked.{all_yes}

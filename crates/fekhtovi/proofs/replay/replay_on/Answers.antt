@@ -1,4 +1,4 @@
-use Rattle.std.proofs.Common.{◌≡◌, ◌+◌, ◌-◌, ◌≤◌, length, take, drop, sym, refl, ap, ◌∙◌, arith}
+use Rattle.std.proofs.Common.{◌≡◌, ◌+◌, ◌-◌, ◌≤◌, length, take, drop, ap, ◌∙◌, arith}
 use Rattle.fekhtovi.specs.Replay.{ended}
 use Rattle.fekhtovi.specs.Script.{scripted_in}
 use Rattle.fekhtovi.proofs.Shorter.{call_shorter}

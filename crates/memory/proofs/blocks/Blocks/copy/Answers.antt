@@ -1,4 +1,4 @@
-use Rattle.std.proofs.Common.{sym, ap, ◌∙◌, arith}
+use Rattle.std.proofs.Common.{arith}
 use Rattle.memory.proofs.Change.{held_long}
 use Rattle.memory.proofs.blocks.Blocks.copy.Goals as goal
 

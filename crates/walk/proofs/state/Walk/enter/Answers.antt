@@ -1,4 +1,4 @@
-use Rattle.std.proofs.Common.{◌≡◌, length, ◌∙◌, arith}
+use Rattle.std.proofs.Common.{length, ◌∙◌, arith}
 use Rattle.walk.specs.Rows.{parts_now, state_of}
 use Rattle.walk.proofs.Opened.{symbol_newest, enter_unawaited, enter_no_rule, enter_other, enter_deep, enter_on}
 use Rattle.walk.proofs.Turns.{open_nodes, awaited_fits, entered_state}
