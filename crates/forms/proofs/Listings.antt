@@ -4,7 +4,7 @@ use Rattle.std.proofs.ByRecursion.{All-append, All-weaker}
 use Rattle.std.proofs.lemmas.Bool.{cond-true, eqb-true, ne_eqb, le-leb}
 use Rattle.std.proofs.lemmas.Bool.Decides.{nat_tests as splits}
 use Rattle.std.specs.Int.{IsInRange}
-use Rattle.std.specs.List.{AllByRecursion as All}
+use Rattle.std.specs.List.{AllByRecursion}
 use Rattle.guide.specs.declared.Event.{Event}
 use Rattle.guide.specs.declared.Event.TheVariants.{Enter, Byte, Leave}
 use Rattle.guide.specs.declared.Defect.TheVariants.{ListingTooLong}
@@ -99,15 +99,15 @@ listing_back bs es h = sym (unlines_lines bs) ∙ lines_back 0 (lines bs) es (sh
 abbrev Plain : ℕ → Type 0
 Plain b = (10 < b) × (b < 256)
 
-digits_plain : (ds : List ℕ) → All (IsInRange 48 57) ds → All Plain ds
+digits_plain : (ds : List ℕ) → AllByRecursion (IsInRange 48 57) ds → AllByRecursion Plain ds
 digits_plain = All-weaker (IsInRange 48 57) Plain (λ d h. (omega arith, omega arith))
 
-line_plain : (e : Event) → EventInRange e → All Plain (line_of e)
+line_plain : (e : Event) → EventInRange e → AllByRecursion Plain (line_of e)
 line_plain (Enter r) h = ((omega arith, omega arith), digits_plain (decimal r) (written_digits r h).digits)
 line_plain (Byte b) h = ((omega arith, omega arith), (hex_plain (b / 16) (omega arith), (hex_plain (b % 16) (omega arith), tt)))
 line_plain Leave h = ((omega arith, omega arith), tt)
 
-line_ended : (l bs : List ℕ) → All Plain l → lines (l ++ (10 ∷ bs)) ≡ ended l (lines bs)
+line_ended : (l bs : List ℕ) → AllByRecursion Plain l → lines (l ++ (10 ∷ bs)) ≡ ended l (lines bs)
 line_ended [] bs h = refl
 line_ended (b ∷ l) bs h =
     let k = h.0 in
@@ -118,22 +118,22 @@ line_forth (Enter r) h = ap enters (rule_forth r h)
 line_forth (Byte b) h = ap reads (byte_forth b h)
 line_forth Leave h = refl
 
-lines_forth : (at : ℕ) (es : List Event) → All EventInRange es → from_lines at (lines (lines_of es)) ≡ tells es End
+lines_forth : (at : ℕ) (es : List Event) → AllByRecursion EventInRange es → from_lines at (lines (lines_of es)) ≡ tells es End
 lines_forth at [] h = refl
 lines_forth at (e ∷ es) h =
     let next = at + (length (line_of e) + 1) in
     ap (from_lines at) (line_ended (line_of e) (lines_of es) (line_plain e h.0))
     ∙ ap (λ o. telling o at (from_lines next (lines (lines_of es)))) (line_forth e h.0) ∙ ap (λ g. e and g) (lines_forth next es h.1)
 
-listing_forth : (es : List Event) → All EventInRange es → length (lines_of es) ≤ 64000 → listing (lines_of es) ≡ tells es End
+listing_forth : (es : List Event) → AllByRecursion EventInRange es → length (lines_of es) ≤ 64000 → listing (lines_of es) ≡ tells es End
 listing_forth es h k = cond-true _ (from_lines 0 (lines (lines_of es))) _ (le-leb (length (lines_of es)) 64000 k) ∙ lines_forth 0 es h
 
 mutual
-  walk_in_range : (t : Tree) → ValuesInRange t → All EventInRange (walk t)
+  walk_in_range : (t : Tree) → ValuesInRange t → AllByRecursion EventInRange (walk t)
   walk_in_range (leaf b) h = (h, tt)
   walk_in_range (node r ts) h = (h.0, All-append EventInRange (walk_all ts) (Leave ∷ []) (walks_in_range ts h.1) (tt, tt))
 
-  walks_in_range : (ts : Children) → AllValuesInRange ts → All EventInRange (walk_all ts)
+  walks_in_range : (ts : Children) → AllValuesInRange ts → AllByRecursion EventInRange (walk_all ts)
   walks_in_range no_more h = tt
   walks_in_range (t then ts) h = All-append EventInRange (walk t) (walk_all ts) (walk_in_range t h.0) (walks_in_range ts h.1)
 
@@ -161,7 +161,7 @@ mutual
       let j = walks_short ts h.1 in
       let k = lines_length (walk t) (walk_all ts) in omega arith
 
-lines_bytes : (es : List Event) → All EventInRange es → All (λ b. b < 256) (lines_of es)
+lines_bytes : (es : List Event) → AllByRecursion EventInRange es → AllByRecursion (λ b. b < 256) (lines_of es)
 lines_bytes [] h = tt
 lines_bytes (e ∷ es) h =
     All-append (λ b. b < 256) (line_of e) (10 ∷ lines_of es)

@@ -5,7 +5,7 @@ use Rattle.std.proofs.lemmas.Str.Parse.{IsNumeralModel, numerals_by_fold, digits
 use Rattle.std.proofs.lemmas.Bool.{cond-true, cond-false, eqb-false, ne_eqb, le-leb, leb-true}
 use Rattle.std.proofs.lemmas.Bool.Decides.{nat_tests as splits}
 use Rattle.std.specs.Int.{IsInRange}
-use Rattle.std.specs.List.{AllByRecursion as All}
+use Rattle.std.specs.List.{AllByRecursion}
 use Rattle.guide.specs.Listing.{is_digit, decimal, rule_number, hex_digit, hex_pair, hex_byte}
 use Rattle.forms.specs.Writing.{hex_digit_of}
 use Rattle.forms.proofs.Clashes.{none_some}
@@ -26,7 +26,7 @@ value_from n [] = n
 value_from n (d ∷ ds) = value_from (10 * n + (d - 48)) ds
 
 abbrev AllDigits : List ℕ → Type 0
-AllDigits ds = All (IsInRange 48 57) ds
+AllDigits ds = AllByRecursion (IsInRange 48 57) ds
 
 numerals : IsNumeralModel AllDigits (value_from 0)
 numerals = numerals_by_fold AllDigits (search rules) value_from (search rules)
@@ -50,7 +50,7 @@ decimal_forth n (d ∷ ds) h =
 
 -- a rule number's digits: 1 to 4, and no leading zero
 pub record RuleDigits (ds : List ℕ) : Type 0 where
-  pub digits : All (IsInRange 48 57) ds
+  pub digits : AllByRecursion (IsInRange 48 57) ds
   pub some : 0 < length ds
   pub few : length ds ≤ 4
   pub no_leading_zero : get_or ds 0 0 ≡ 48 → length ds ≡ 1

@@ -3,7 +3,7 @@ use Rattle.std.proofs.Common.{◌≡◌, ℕ, ◌+◌, ◌*◌, ◌/◌, ◌%◌
 use Rattle.std.proofs.ByRecursion.{All-append}
 use Rattle.std.proofs.lemmas.Bool.{le-leb}
 use Rattle.std.proofs.lemmas.Bool.Decides.{nat_tests as splits}
-use Rattle.std.specs.List.{AllByRecursion as All}
+use Rattle.std.specs.List.{AllByRecursion}
 use Rattle.guide.specs.declared.records.Record.{Record}
 use Rattle.guide.specs.declared.records.Record.TheVariants.{Rule, Leaf, Malformed}
 use Rattle.guide.specs.LinkTable.{field, record_of, records}
@@ -59,11 +59,11 @@ link_fits n no_more h = omega arith
 link_fits n (t then ts) h = omega arith
 
 mutual
-  records_fit : (t : Tree) (n s : ℕ) → ValuesInRange t → s < 65536 → n + nodes t ≤ 8000 → All Fits (records_of n s t)
+  records_fit : (t : Tree) (n s : ℕ) → ValuesInRange t → s < 65536 → n + nodes t ≤ 8000 → AllByRecursion Fits (records_of n s t)
   records_fit (leaf b) n s i h k = ((i, h), tt)
   records_fit (node r ts) n s i h k = ((i.0, link_fits (n + 1) ts (omega arith), h), all_fit ts (n + 1) i.1 (omega arith))
 
-  all_fit : (ts : Children) (n : ℕ) → AllValuesInRange ts → n + nodes_all ts ≤ 8000 → All Fits (records_all n ts)
+  all_fit : (ts : Children) (n : ℕ) → AllValuesInRange ts → n + nodes_all ts ≤ 8000 → AllByRecursion Fits (records_all n ts)
   all_fit no_more n i k = tt
   all_fit (t then ts) n i k =
       let s = first_link (n + nodes t) ts in
@@ -102,11 +102,11 @@ line_in_form k z v c s r f e =
     ]
 
 abbrev Bytes : List ℕ → Type 0
-Bytes bs = All (λ b. b < 256) bs
+Bytes bs = AllByRecursion (λ b. b < 256) bs
 
 -- whole records are read back to the bytes
 abbrev ReadBack : List ℕ → Type 0
-ReadBack bs = (rs : List Record) → All Fits rs → Bytes bs → length bs % 8 ≡ 0 → records bs ≡ rs → bs ≡ bytes_all rs
+ReadBack bs = (rs : List Record) → AllByRecursion Fits rs → Bytes bs → length bs % 8 ≡ 0 → records bs ≡ rs → bs ≡ bytes_all rs
 
 none_back : (bs : List ℕ) → length bs ≡ 0 → bs ≡ []
 none_back [] h = refl
@@ -123,7 +123,7 @@ one_back k z v1 v0 c1 c0 s1 s0 bs i (r ∷ rs) f w l h =
 records_back : (bs : List ℕ) → ReadBack bs
 records_back = by_records ReadBack (λ bs short e rs f w l h. none_back bs (omega arith) ∙ ap bytes_all (sym e ∙ h)) one_back
 
-pub table_back : (t : Tree) (bs : List ℕ) → All Fits (records_of 0 0 t) → Bytes bs → length bs % 8 ≡ 0 → records bs ≡ records_of 0 0 t
+pub table_back : (t : Tree) (bs : List ℕ) → AllByRecursion Fits (records_of 0 0 t) → Bytes bs → length bs % 8 ≡ 0 → records bs ≡ records_of 0 0 t
     → bs ≡ link_table_of t
 table_back t bs f w l h = records_back bs (records_of 0 0 t) f w l h ∙ sym (tree_is_its_records t 0 0)
 
@@ -136,7 +136,7 @@ record_forth (Rule v c s) bs f = simp (field_forth v, field_forth c, field_forth
 record_forth (Leaf b s) bs f = simp (field_forth b, field_forth s, le-leb b 255 (let k = f.0 in omega arith))
 record_forth Malformed bs f = absurd f
 
-records_forth : (rs : List Record) → All Fits rs → records (bytes_all rs) ≡ rs
+records_forth : (rs : List Record) → AllByRecursion Fits rs → records (bytes_all rs) ≡ rs
 records_forth [] f = refl
 records_forth (r ∷ rs) f = record_forth r (bytes_all rs) f.0 ∙ ap (λ l. r ∷ l) (records_forth rs f.1)
 
@@ -149,7 +149,7 @@ one_bytes (Rule v c s) f = let k = f.0 in record_has_bytes 1 v c s (omega arith)
 one_bytes (Leaf b s) f = let k = f.0 in record_has_bytes 2 b 0 s (omega arith) (omega arith) (omega arith) f.1
 one_bytes Malformed f = absurd f
 
-records_have_bytes : (rs : List Record) → All Fits rs → Bytes (bytes_all rs)
+records_have_bytes : (rs : List Record) → AllByRecursion Fits rs → Bytes (bytes_all rs)
 records_have_bytes [] f = tt
 records_have_bytes (r ∷ rs) f = All-append (λ b. b < 256) (bytes_of r) (bytes_all rs) (one_bytes r f.0) (records_have_bytes rs f.1)
 
@@ -158,7 +158,7 @@ one_length (Rule v c s) f = refl
 one_length (Leaf b s) f = refl
 one_length Malformed f = absurd f
 
-all_length : (rs : List Record) → All Fits rs → length (bytes_all rs) ≡ 8 * length rs
+all_length : (rs : List Record) → AllByRecursion Fits rs → length (bytes_all rs) ≡ 8 * length rs
 all_length [] f = refl
 all_length (r ∷ rs) f =
     let h = one_length r f.0 in let k = all_length rs f.1 in length-append (bytes_of r) (bytes_all rs) ∙ omega arith
@@ -176,7 +176,7 @@ mutual
       let k = children_length ts (n + nodes t) in length-append (records_of n s t) (records_all (n + nodes t) ts) ∙ omega arith
 
 pub record TableOf (t : Tree) : Type 0 where
-  pub fit : All Fits (records_of 0 0 t)
+  pub fit : AllByRecursion Fits (records_of 0 0 t)
   pub bytes : Bytes (link_table_of t)
   pub size : length (link_table_of t) ≡ 8 * nodes t
   pub parts : records (link_table_of t) ≡ records_of 0 0 t

@@ -1,6 +1,6 @@
 -- Each tree has exactly one listing and exactly one link table; and where the faults of a link table stand.
 use Rattle.std.specs.Prelude.{◌≡◌, ℕ, ◌+◌, ◌*◌, ◌<◌, List}
-use Rattle.std.specs.List.{AllByRecursion as All}
+use Rattle.std.specs.List.{AllByRecursion}
 use Rattle.guide.specs.declared.Event.TheVariants.{Enter, Byte, Leave}
 use Rattle.guide.specs.declared.Finish.TheVariants.{End, Fault}
 use Rattle.guide.specs.LinkTable.{link_table}
@@ -12,7 +12,7 @@ use Rattle.forms.specs.Writing.{listing_of, link_table_of}
 
 -- bytes that, read in a form, mean the tree's walk and then the end
 pub record Means (form : List ℕ → Told) (t : Tree) (bs : List ℕ) : Type 0 where
-  pub bytes : All (λ b. b < 256) bs
+  pub bytes : AllByRecursion (λ b. b < 256) bs
   pub walked : form bs ≡ tells (walk t) End
 
 -- bs, and no other bytes

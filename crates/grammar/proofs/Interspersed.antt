@@ -1,6 +1,6 @@
 -- What stands at each place of an interspersed list, and what is left without the separator.
 use Rattle.std.proofs.Common.{◌≡◌, ℕ, zero, suc, ◌+◌, ◌-◌, ◌*◌, ◌/◌, ◌%◌, ◌<◌, ◌≤◌, Bool, true, false, not, List, [], ◌∷◌, length, Some, None, filter, sym, refl, ap, ◌∙◌, arith}
-use Rattle.std.specs.List.{AllByRecursion as All, slice_get}
+use Rattle.std.specs.List.{AllByRecursion, slice_get}
 use Rattle.std.proofs.lemmas.Bool.{ne_eqb}
 use Rattle.grammar.specs.Meaning.{LawfulPart}
 use Rattle.grammar.specs.Spaced.{intersperse}
@@ -81,6 +81,6 @@ lower_stays w (Range low high) h = refl
 lower_stays w (Except x y z) h = refl
 
 -- lawful parts have no symbol as large as the count
-pub kept_lower : (w : ℕ) (ps : List Part) → All (LawfulPart w) ps → filter (λ p. not (is_symbol w p)) ps ≡ ps
+pub kept_lower : (w : ℕ) (ps : List Part) → AllByRecursion (LawfulPart w) ps → filter (λ p. not (is_symbol w p)) ps ≡ ps
 kept_lower w [] h = refl
 kept_lower w (p ∷ ps) h = rw (lower_stays w p h.0, kept_lower w ps h.1)

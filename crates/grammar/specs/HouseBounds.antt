@@ -1,7 +1,7 @@
 -- The house grammar keeps the bounds: one computation over its rules. (A ghost member cites it, so it stands here and not in proofs/.)
 use Rattle.std.specs.Prelude.{◌≡◌, ℕ, zero, suc, Bool, true, ◌&&◌, List, [], ◌∷◌, length, IfSome, nat_le, nat_lt, refl}
 use Rattle.std.proofs.Common.{arith}
-use Rattle.std.specs.List.{AllByRecursion as All, slice_get}
+use Rattle.std.specs.List.{AllByRecursion, slice_get}
 use Rattle.std.proofs.lemmas.Option.{slice_get_past}
 use Rattle.std.proofs.lemmas.Bool.{and_parts, ltb-true, leb-true}
 use Rattle.grammar.specs.Meaning.{Rule, Bounded, LawfulPart, LawfulRule}
@@ -28,7 +28,7 @@ part_lawful n (Symbol s) e = ltb-true s n e
 part_lawful n (Range low high) e = leb-true low high e
 part_lawful n (Except x y z) e = tt
 
-parts_lawful : (n : ℕ) (ps : List Part) → test_parts n ps ≡ true → All (LawfulPart n) ps
+parts_lawful : (n : ℕ) (ps : List Part) → test_parts n ps ≡ true → AllByRecursion (LawfulPart n) ps
 parts_lawful n [] e = tt
 parts_lawful n (p ∷ ps) e =
     let a = and_parts (test_part n p) (test_parts n ps) e in (part_lawful n p a.0, parts_lawful n ps a.1)

@@ -1,6 +1,6 @@
 -- What a grammar means, the questions that it is asked, and the bounds that every grammar keeps.
 use Rattle.std.specs.Prelude.{◌≡◌, ℕ, ◌<◌, ◌≤◌, Bool, false, not, ◌&&◌, List, length, IfSome, Some, None, Option, ◌==◌, nat_le}
-use Rattle.std.specs.List.{AllByRecursion as All, slice_get}
+use Rattle.std.specs.List.{AllByRecursion, slice_get}
 use Rattle.grammar.specs.declared.Mark.{Mark}
 use Rattle.grammar.specs.declared.Part.{Part}
 use Rattle.grammar.specs.declared.Part.TheVariants.{Symbol, Range, Except}
@@ -53,7 +53,7 @@ LawfulPart n (Except x y z) = Unit {0}
 pub record LawfulRule (n : ℕ) (r : Rule) : Type 0 where
   pub left_below : r.left < n
   pub few_parts : length r.parts ≤ 255
-  pub each_part : All (LawfulPart n) r.parts
+  pub each_part : AllByRecursion (LawfulPart n) r.parts
 
 -- what every grammar keeps
 pub record Bounded (m : Meaning) : Type 0 where

@@ -2,7 +2,7 @@
 use Rattle.std.specs.Prelude.{◌≡◌, ℕ, zero, suc, ◌+◌, ◌-◌, ◌≤◌, true, ◌&&◌, List, [], ◌∷◌, map, length, IfSome, Some, None, Option, nat_le, nat_lt, refl}
 use Rattle.std.proofs.Common.{arith}
 use Rattle.std.specs.Option.{option_map}
-use Rattle.std.specs.List.{AllByRecursion as All, slice_get}
+use Rattle.std.specs.List.{AllByRecursion, slice_get}
 use Rattle.std.proofs.ByRecursion.{All-weaker}
 use Rattle.std.proofs.lemmas.Option.{slice_get_past}
 use Rattle.std.proofs.lemmas.Bool.{cond_both, and_parts, leb-true, ltb-true}
@@ -16,7 +16,7 @@ length_intersperse w [] = refl
 length_intersperse w (p ∷ []) = refl
 length_intersperse w (p ∷ q ∷ ps) = let h = length_intersperse w (q ∷ ps) in omega arith
 
-all_intersperse : (P : Part → Type 0) (w : Part) (ps : List Part) → P w → All P ps → All P (intersperse w ps)
+all_intersperse : (P : Part → Type 0) (w : Part) (ps : List Part) → P w → AllByRecursion P ps → AllByRecursion P (intersperse w ps)
 all_intersperse P w [] h a = tt
 all_intersperse P w (p ∷ []) h a = a
 all_intersperse P w (p ∷ q ∷ ps) h a = (a.0, (h, all_intersperse P w (q ∷ ps) h a.1))

@@ -2,7 +2,7 @@
 use Rattle.std.specs.Prelude.{ℕ, zero, suc, ◌≤◌, cond, replicate, IfSome, Some, None, nat_lt}
 use Rattle.std.proofs.Common.{arith}
 use Rattle.std.proofs.lemmas.List.{length-replicate}
-use Rattle.std.specs.List.{AllByRecursion as All}
+use Rattle.std.specs.List.{AllByRecursion}
 use Rattle.std.proofs.lemmas.Bool.{cond_both, cond-false, le-ltb}
 use Rattle.grammar.specs.Meaning.{Rule, Meaning, Bounded, LawfulPart, LawfulRule, ruled}
 use Rattle.grammar.specs.declared.Mark.TheVariants.{Loose}
@@ -19,7 +19,7 @@ uniform_meaning symbols rules parts = record {
   rule = λ n. cond (nat_lt n rules) (Some (uniform_rule parts)) None;
 }
 
-all_lawful : (n parts : ℕ) → All (LawfulPart n) (replicate parts (Range 0 0))
+all_lawful : (n parts : ℕ) → AllByRecursion (LawfulPart n) (replicate parts (Range 0 0))
 all_lawful n zero = tt
 all_lawful n (suc parts) = (omega arith, all_lawful n parts)
 

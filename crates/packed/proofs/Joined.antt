@@ -1,6 +1,6 @@
 -- Pieces joined together, joined lists cut into pieces, and maps that undo each other.
 use Rattle.std.proofs.Common.{◌≡◌, ℕ, zero, suc, ◌+◌, ◌-◌, ◌*◌, ◌≤◌, List, [], ◌∷◌, ◌++◌, map, length, get_or, take, drop, sym, refl, ap, ◌∙◌, append_assoc, mul-zero, mul-suc, arith, length-append, length-drop, take-append-drop}
-use Rattle.std.specs.List.{AllByRecursion as All}
+use Rattle.std.specs.List.{AllByRecursion}
 use Rattle.std.proofs.ByRecursion.{All-take, All-drop}
 use Rattle.std.proofs.lemmas.List.{take_at, drop_at, drop_more, length-take-le}
 use Rattle.packed.specs.Pieces.{pieces, joined, drop_piece}
@@ -13,14 +13,14 @@ joined_pieces w (suc n) xs =
     ∙ (ap (λ end. take w xs ++ (joined (pieces w n (drop w xs)) ++ end)) (sym (drop_piece w n xs))
     ∙ (ap (λ end. take w xs ++ end) (joined_pieces w n (drop w xs)) ∙ take-append-drop w xs))
 
-pub all_pieces : {X : Type 0} (P : X → Type 0) (w n : ℕ) (xs : List X) → All P xs → All (All P) (pieces w n xs)
+pub all_pieces : {X : Type 0} (P : X → Type 0) (w n : ℕ) (xs : List X) → AllByRecursion P xs → AllByRecursion (AllByRecursion P) (pieces w n xs)
 all_pieces P w zero xs a = tt
 all_pieces P w (suc n) xs a = (All-take P w xs a, all_pieces P w n (drop w xs) (All-drop P w xs a))
 
 one_more : (w rest size : ℕ) → rest + w ≤ size → (w ≤ size) × (rest ≤ size - w)
 one_more w rest size h = (omega arith, omega arith)
 
-pub pieces_whole : {X : Type 0} (w n : ℕ) (xs : List X) → w * n ≤ length xs → All (λ p. length p ≡ w) (pieces w n xs)
+pub pieces_whole : {X : Type 0} (w n : ℕ) (xs : List X) → w * n ≤ length xs → AllByRecursion (λ p. length p ≡ w) (pieces w n xs)
 pieces_whole w zero xs h = tt
 pieces_whole w (suc n) xs h =
     let room = one_more w (w * n) (length xs) (rw mul-suc at h) in
@@ -28,14 +28,14 @@ pieces_whole w (suc n) xs h =
 
 -- the pieces of lists that were made of one width each
 module _ {X Y : Type 0} (w : ℕ) (f : Y → List X) where
-  pub pieces_joined : (ys : List Y) (rest : List X) → All (λ y. length (f y) ≡ w) ys → pieces w (length ys) (joined (map f ys) ++ rest) ≡ map f ys
+  pub pieces_joined : (ys : List Y) (rest : List X) → AllByRecursion (λ y. length (f y) ≡ w) ys → pieces w (length ys) (joined (map f ys) ++ rest) ≡ map f ys
   pieces_joined [] rest a = refl
   pieces_joined (y ∷ ys) rest a =
       let more = joined (map f ys) ++ rest in
       ap (pieces w (suc (length ys))) (append_assoc (f y) (joined (map f ys)) rest)
       ∙ rw (take_at (f y) more w a.0, drop_at (f y) more w a.0, pieces_joined ys rest a.1)
 
-  pub drop_joined : (ys : List Y) (rest : List X) → All (λ y. length (f y) ≡ w) ys → drop (w * length ys) (joined (map f ys) ++ rest) ≡ rest
+  pub drop_joined : (ys : List Y) (rest : List X) → AllByRecursion (λ y. length (f y) ≡ w) ys → drop (w * length ys) (joined (map f ys) ++ rest) ≡ rest
   drop_joined [] rest a = ap (λ k. drop k rest) (mul-zero w)
   drop_joined (y ∷ ys) rest a =
       let more = joined (map f ys) ++ rest in
@@ -43,14 +43,14 @@ module _ {X Y : Type 0} (w : ℕ) (f : Y → List X) where
       ∙ (ap (λ all. drop (w * length ys) (drop w all)) (append_assoc (f y) (joined (map f ys)) rest)
       ∙ (ap (drop (w * length ys)) (drop_at (f y) more w a.0) ∙ drop_joined ys rest a.1))
 
-  pub length_joined : (ys : List Y) → All (λ y. length (f y) ≡ w) ys → length (joined (map f ys)) ≡ w * length ys
+  pub length_joined : (ys : List Y) → AllByRecursion (λ y. length (f y) ≡ w) ys → length (joined (map f ys)) ≡ w * length ys
   length_joined [] a = sym (mul-zero w)
   length_joined (y ∷ ys) a =
       let rest = length_joined ys a.1 in
       let more = mul-suc w (length ys) in
       length-append (f y) (joined (map f ys)) ∙ omega (arith, a.0)
 
-pub mapped_back : {X Y : Type 0} (f : X → Y) (g : Y → X) (xs : List X) → All (λ x. g (f x) ≡ x) xs → map g (map f xs) ≡ xs
+pub mapped_back : {X Y : Type 0} (f : X → Y) (g : Y → X) (xs : List X) → AllByRecursion (λ x. g (f x) ≡ x) xs → map g (map f xs) ≡ xs
 mapped_back f g [] a = refl
 mapped_back f g (x ∷ xs) a = rw (a.0, mapped_back f g xs a.1)
 

@@ -2,7 +2,7 @@
 use Rattle.std.proofs.Common.{◌≡◌, ℕ, zero, suc, ◌+◌, ◌-◌, ◌*◌, ◌/◌, ◌%◌, ◌≤◌, Bool, true, not, leb, List, [], ◌∷◌, ◌++◌, map, length, replicate, is_some, None, sym, refl, ap, ◌∙◌, append-nil, arith, length-append}
 use lib.ListN.{length-replicate}
 use Rattle.std.specs.Option.{option_or}
-use Rattle.std.specs.List.{AllByRecursion as All}
+use Rattle.std.specs.List.{AllByRecursion}
 use Rattle.std.proofs.ByRecursion.{All-weaker}
 use Rattle.std.proofs.lemmas.Bool.{and_from, cond-true, lt-ltb, le-leb, eq-eqb}
 use Rattle.grammar.specs.Meaning.{Rule}
@@ -34,11 +34,11 @@ part_passes n (Symbol s) h = lt-ltb (s / 256 * 256 + s % 256) n (omega arith)
 part_passes n (Range low high) h = and_from (leb low high) true (le-leb low high h.0) refl
 part_passes n (Except x y z) h = refl
 
-pub all_of : {X : Type 0} (P : X → Type 0) → ((x : X) → P x) → (xs : List X) → All P xs
+pub all_of : {X : Type 0} (P : X → Type 0) → ((x : X) → P x) → (xs : List X) → AllByRecursion P xs
 all_of P h [] = tt
 all_of P h (x ∷ xs) = (h x, all_of P h xs)
 
-every_map : {X Y : Type 0} (p : Y → Bool) (f : X → Y) (xs : List X) → All (λ x. p (f x) ≡ true) xs → every p (map f xs) ≡ true
+every_map : {X Y : Type 0} (p : Y → Bool) (f : X → Y) (xs : List X) → AllByRecursion (λ x. p (f x) ≡ true) xs → every p (map f xs) ≡ true
 every_map p f [] a = refl
 every_map p f (x ∷ xs) a = and_from (p (f x)) (every p (map f xs)) a.0 (every_map p f xs a.1)
 
@@ -54,7 +54,7 @@ mark_known : (k : Mark) → mark_number k ≤ 1
 mark_known Loose = omega arith
 mark_known Tight = omega arith
 
-all_long : (ps : List Part) → All (λ p. length (part_bytes p) ≡ 4) ps
+all_long : (ps : List Part) → AllByRecursion (λ p. length (part_bytes p) ≡ 4) ps
 all_long = all_of (λ p. length (part_bytes p) ≡ 4) part_long
 
 row_slots : (r : Rule) → slots (row_bytes r) ≡ map part_bytes r.parts
@@ -88,12 +88,12 @@ row_passes n rule r h =
     let rest = ap (every is_zero) (row_padding r) ∙ zeros_pass (60 - 4 * length r.parts) in
     cond-true (lawful_head n (row_bytes r)) _ _ head ∙ (cond-true (every (lawful_part n) (slots (row_bytes r))) _ _ parts ∙ cond-true (every is_zero (padding (row_bytes r))) _ _ rest)
 
-rows_pass : (n rule : ℕ) (rs : List Rule) → All (FitsRule n) rs → rows_fault n rule (map row_bytes rs) ≡ None
+rows_pass : (n rule : ℕ) (rs : List Rule) → AllByRecursion (FitsRule n) rs → rows_fault n rule (map row_bytes rs) ≡ None
 rows_pass n rule [] a = refl
 rows_pass n rule (r ∷ rs) a = ap (λ o. option_or o (rows_fault n (rule + 1) (map row_bytes rs))) (row_passes n rule r a.0) ∙ rows_pass n (rule + 1) rs a.1
 
 module _ (g : Listed) (h : FitsTable g) where
-  rows_have_64 : All (λ r. length (row_bytes r) ≡ 64) g.rules
+  rows_have_64 : AllByRecursion (λ r. length (row_bytes r) ≡ 64) g.rules
   rows_have_64 = All-weaker (FitsRule g.symbols) _ (λ r f. row_long r f.few_parts) g.rules h.each_rule
 
   table_rows : rows (table_of g) ≡ map row_bytes g.rules

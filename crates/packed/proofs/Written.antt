@@ -1,6 +1,6 @@
 -- A lawful table is how the grammar that it means is written, and that grammar fits.
 use Rattle.std.proofs.Common.{◌≡◌, ℕ, zero, suc, ◌+◌, ◌-◌, ◌*◌, ◌/◌, ◌%◌, ◌<◌, ◌≤◌, Bool, true, false, cond, ◌&&◌, eqb, ltb, leb, List, [], ◌∷◌, ◌++◌, map, length, get_or, drop, replicate, sym, refl, ap, ◌∙◌, append-nil, arith, length-drop}
-use Rattle.std.specs.List.{AllByRecursion as All}
+use Rattle.std.specs.List.{AllByRecursion}
 use Rattle.std.proofs.ByRecursion.{All-drop, All-map}
 use Rattle.std.proofs.lemmas.List.{drop_all, length-map}
 use Rattle.std.proofs.lemmas.Bool.{cond_both, and_parts, eqb-true}
@@ -13,7 +13,7 @@ use Rattle.packed.specs.Bounds.{LawfulRow, LawfulTable, all_every, part_lawful}
 use Rattle.packed.specs.Encoding.{IsByte, mark_number, part_bytes, row_bytes, table_of, FitsPart, FitsRule, FitsTable}
 use Rattle.packed.proofs.Joined.{joined_pieces, all_pieces, pieces_whole, mapped_back, elements, elements_first}
 
-byte_below : (xs : List ℕ) → All IsByte xs → (i : ℕ) → get_or xs i 0 < 256
+byte_below : (xs : List ℕ) → AllByRecursion IsByte xs → (i : ℕ) → get_or xs i 0 < 256
 byte_below [] a i = omega arith
 byte_below (x ∷ xs) a zero = a.0
 byte_below (x ∷ xs) a (suc i) = byte_below xs a.1 i
@@ -26,12 +26,12 @@ low : (a b : ℕ) → b < 256 → (a * 256 + b) % 256 ≡ b
 low a b h = omega arith
 
 -- two facts of each element, made one
-all_with : {X : Type 0} (P Q R : X → Type 0) → ((x : X) → P x → Q x → R x) → (xs : List X) → All P xs → All Q xs → All R xs
+all_with : {X : Type 0} (P Q R : X → Type 0) → ((x : X) → P x → Q x → R x) → (xs : List X) → AllByRecursion P xs → AllByRecursion Q xs → AllByRecursion R xs
 all_with P Q R f [] p q = tt
 all_with P Q R f (x ∷ xs) p q = (f x p.0 q.0, all_with P Q R f xs p.1 q.1)
 
 -- and three
-all_three : {X : Type 0} (P Q R S : X → Type 0) → ((x : X) → P x → Q x → R x → S x) → (xs : List X) → All P xs → All Q xs → All R xs → All S xs
+all_three : {X : Type 0} (P Q R S : X → Type 0) → ((x : X) → P x → Q x → R x → S x) → (xs : List X) → AllByRecursion P xs → AllByRecursion Q xs → AllByRecursion R xs → AllByRecursion S xs
 all_three P Q R S f xs p q r = all_with P (λ x. Q x × R x) S (λ x a b. f x a b.0 b.1) xs p (all_with Q R (λ x. Q x × R x) (λ x a b. (a, b)) xs q r)
 
 -- a part by its four bytes
@@ -48,7 +48,7 @@ by_kind n t a b c false true is_one is-two small e =
     rw (kind, zero_is)
 by_kind n t a b c false false is_one is-two small e = let kind = eqb-true t 3 e in rw kind
 
-part_written : (n : ℕ) (slot : List ℕ) → length slot ≡ 4 → All IsByte slot → lawful_part n slot ≡ true → part_bytes (part_in slot) ≡ slot
+part_written : (n : ℕ) (slot : List ℕ) → length slot ≡ 4 → AllByRecursion IsByte slot → lawful_part n slot ≡ true → part_bytes (part_in slot) ≡ slot
 part_written n slot four bytes lawful =
     by_kind n (byte_at slot 0) (byte_at slot 1) (byte_at slot 2) (byte_at slot 3) (eqb (byte_at slot 0) 1) (eqb (byte_at slot 0) 2) refl refl (byte_below slot bytes 3) lawful
     ∙ (ap (λ end. elements 0 4 slot ++ end) (sym (drop_all 4 slot (omega arith))) ∙ elements_first 0 4 slot (omega arith))
@@ -67,7 +67,7 @@ zeros_are (x ∷ xs) (suc n) l e =
     let z = eqb-true x 0 a.0 in
     rw (z, zeros_are xs n (omega arith) a.1)
 
-part_fits : (n : ℕ) (slot : List ℕ) → All IsByte slot → lawful_part n slot ≡ true → FitsPart n (part_in slot)
+part_fits : (n : ℕ) (slot : List ℕ) → AllByRecursion IsByte slot → lawful_part n slot ≡ true → FitsPart n (part_in slot)
 part_fits n slot bytes lawful =
     cond_both (eqb (byte_at slot 0) 1) _ _ (λ p. LawfulPart n p → FitsPart n p) (λ _ l. l)
     (λ _. cond_both (eqb (byte_at slot 0) 2) _ _ (λ p. LawfulPart n p → FitsPart n p)
@@ -75,25 +75,25 @@ part_fits n slot bytes lawful =
     (λ _ _. (byte_below slot bytes 1, byte_below slot bytes 2, byte_below slot bytes 3)))
     (part_lawful n slot lawful)
 
-module _ (n : ℕ) (row : List ℕ) (whole : length row ≡ 64) (bytes : All IsByte row) (h : LawfulRow n row) where
+module _ (n : ℕ) (row : List ℕ) (whole : length row ≡ 64) (bytes : AllByRecursion IsByte row) (h : LawfulRow n row) where
   count : length (rule_in row).parts ≡ part_count row
   count = length-map (slots row) part_in ∙ length_pieces 4 (part_count row) (drop 4 row)
 
   -- each slot in use has four bytes, and is lawful
-  slots_bytes : All (All IsByte) (slots row)
+  slots_bytes : AllByRecursion (AllByRecursion IsByte) (slots row)
   slots_bytes = all_pieces IsByte 4 (part_count row) (drop 4 row) (All-drop IsByte 4 row bytes)
 
-  slots_lawful : All (λ s. lawful_part n s ≡ true) (slots row)
+  slots_lawful : AllByRecursion (λ s. lawful_part n s ≡ true) (slots row)
   slots_lawful = all_every (lawful_part n) (slots row) h.each_part
 
-  slots_whole : All (λ s. length s ≡ 4) (slots row)
+  slots_whole : AllByRecursion (λ s. length s ≡ 4) (slots row)
   slots_whole =
       let behind : 4 * part_count row ≤ length (drop 4 row) = simp length-drop (omega (arith, h.few_parts)) in
       pieces_whole 4 (part_count row) (drop 4 row) behind
 
   parts_written : joined (map part_bytes (map part_in (slots row))) ≡ joined (slots row)
   parts_written =
-      let each = all_three (λ s. length s ≡ 4) (All IsByte) (λ s. lawful_part n s ≡ true) (λ s. part_bytes (part_in s) ≡ s)
+      let each = all_three (λ s. length s ≡ 4) (AllByRecursion IsByte) (λ s. lawful_part n s ≡ true) (λ s. part_bytes (part_in s) ≡ s)
       (part_written n) (slots row) slots_whole slots_bytes slots_lawful in
       ap joined (mapped_back part_in part_bytes (slots row) each)
 
@@ -111,31 +111,31 @@ module _ (n : ℕ) (row : List ℕ) (whole : length row ≡ 64) (bytes : All IsB
     left_below = h.left_below;
     few_parts = omega (arith, count, h.few_parts);
     each_part = All-map (FitsPart n) part_in (slots row)
-        (all_with (All IsByte) (λ s. lawful_part n s ≡ true) (λ s. FitsPart n (part_in s)) (part_fits n) (slots row) slots_bytes slots_lawful);
+        (all_with (AllByRecursion IsByte) (λ s. lawful_part n s ≡ true) (λ s. FitsPart n (part_in s)) (part_fits n) (slots row) slots_bytes slots_lawful);
   }
 
-module _ (bs : List ℕ) (bytes : All IsByte bs) (h : LawfulTable bs) where
+module _ (bs : List ℕ) (bytes : AllByRecursion IsByte bs) (h : LawfulTable bs) where
   counts_rules : length (map rule_in (rows bs)) ≡ rule_count bs
   counts_rules = length-map (rows bs) rule_in ∙ length_pieces 64 (rule_count bs) (drop 8 bs)
 
-  rows_whole : All (λ row. length row ≡ 64) (rows bs)
+  rows_whole : AllByRecursion (λ row. length row ≡ 64) (rows bs)
   rows_whole =
       let behind : 64 * rule_count bs ≤ length (drop 8 bs) = simp length-drop (omega (arith, h.whole_rows)) in
       pieces_whole 64 (rule_count bs) (drop 8 bs) behind
 
-  rows_bytes : All (All IsByte) (rows bs)
+  rows_bytes : AllByRecursion (AllByRecursion IsByte) (rows bs)
   rows_bytes = all_pieces IsByte 64 (rule_count bs) (drop 8 bs) (All-drop IsByte 8 bs bytes)
 
   rows_written : map row_bytes (map rule_in (rows bs)) ≡ rows bs
   rows_written =
       mapped_back rule_in row_bytes (rows bs)
-      (all_three (λ row. length row ≡ 64) (All IsByte) (LawfulRow (symbol_count bs)) (λ row. row_bytes (rule_in row) ≡ row)
+      (all_three (λ row. length row ≡ 64) (AllByRecursion IsByte) (LawfulRow (symbol_count bs)) (λ row. row_bytes (rule_in row) ≡ row)
       (row_written (symbol_count bs)) (rows bs) rows_whole rows_bytes h.each_row)
 
-  rows_fit : All (FitsRule (symbol_count bs)) (map rule_in (rows bs))
+  rows_fit : AllByRecursion (FitsRule (symbol_count bs)) (map rule_in (rows bs))
   rows_fit =
       All-map (FitsRule (symbol_count bs)) rule_in (rows bs)
-      (all_three (λ row. length row ≡ 64) (All IsByte) (LawfulRow (symbol_count bs)) (λ row. FitsRule (symbol_count bs) (rule_in row))
+      (all_three (λ row. length row ≡ 64) (AllByRecursion IsByte) (LawfulRow (symbol_count bs)) (λ row. FitsRule (symbol_count bs) (rule_in row))
       (row_fits (symbol_count bs)) (rows bs) rows_whole rows_bytes h.each_row)
 
   behind_header : joined (map row_bytes (map rule_in (rows bs))) ≡ drop 8 bs

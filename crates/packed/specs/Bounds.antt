@@ -2,7 +2,7 @@
 use Rattle.std.specs.Prelude.{◌≡◌, ℕ, zero, suc, ◌+◌, ◌*◌, ◌<◌, ◌≤◌, Bool, true, false, cond, ◌&&◌, List, [], ◌∷◌, map, length, drop, is_some, IfSome, Some, None, Option, ◌==◌, nat_le, nat_lt, refl}
 use Rattle.std.proofs.Common.{sym, ap, ◌∙◌, arith}
 use Rattle.std.specs.Option.{option_or}
-use Rattle.std.specs.List.{AllByRecursion as All, slice_get}
+use Rattle.std.specs.List.{AllByRecursion, slice_get}
 use Rattle.std.proofs.ByRecursion.{All-map, All-weaker}
 use Rattle.std.proofs.lemmas.List.{length-map}
 use Rattle.std.proofs.lemmas.Option.{slice_get_past}
@@ -29,7 +29,7 @@ pub record LawfulTable (bs : List ℕ) : Type 0 where
   pub few_symbols : symbol_count bs ≤ 256
   pub start_below : start_symbol bs < symbol_count bs
   pub last_zero : last_field bs ≡ 0
-  pub each_row : All (LawfulRow (symbol_count bs)) (rows bs)
+  pub each_row : AllByRecursion (LawfulRow (symbol_count bs)) (rows bs)
 
 none_of : (o : Option TableFault) → is_some o ≡ false → o ≡ None
 none_of None e = refl
@@ -58,7 +58,7 @@ row_facts n rule row e =
     let h = head_facts n row a.0 in
     record { left_below = h.0; mark_known = h.1; few_parts = h.2; each_part = b.0; rest_zero = c.0 }
 
-rows_facts : (n rule : ℕ) (all : List (List ℕ)) → rows_fault n rule all ≡ None → All (LawfulRow n) all
+rows_facts : (n rule : ℕ) (all : List (List ℕ)) → rows_fault n rule all ≡ None → AllByRecursion (LawfulRow n) all
 rows_facts n rule [] e = tt
 rows_facts n rule (row ∷ more) e =
     let a = or_none (row_fault n rule row) (rows_fault n (rule + 1) more) e in
@@ -112,7 +112,7 @@ part_lawful n slot e =
     (λ h. at_symbol n t (byte_at slot 1) (pair_at slot 2) _ h e)
     (λ h. cond_both (t == 2) _ _ (LawfulPart n) (λ k. at_range t (byte_at slot 1) (byte_at slot 2) (byte_at slot 3) _ _ h k e) (λ _. tt))
 
-pub all_every : {X : Type 0} (p : X → Bool) (xs : List X) → every p xs ≡ true → All (λ x. p x ≡ true) xs
+pub all_every : {X : Type 0} (p : X → Bool) (xs : List X) → every p xs ≡ true → AllByRecursion (λ x. p x ≡ true) xs
 all_every p [] e = tt
 all_every p (x ∷ xs) e = let a = and_parts (p x) (every p xs) e in (a.0, all_every p xs a.1)
 
@@ -127,7 +127,7 @@ rule_lawful n row h =
           (All-weaker (λ s. lawful_part n s ≡ true) (λ s. LawfulPart n (part_in s)) (part_lawful n) (slots row) (all_every (lawful_part n) (slots row) h.each_part));
     }
 
-all_cases : (n : ℕ) (rs : List Rule) → All (LawfulRule n) rs → (k : ℕ) → IfSome (slice_get rs k) (LawfulRule n)
+all_cases : (n : ℕ) (rs : List Rule) → AllByRecursion (LawfulRule n) rs → (k : ℕ) → IfSome (slice_get rs k) (LawfulRule n)
 all_cases n [] a k = tt
 all_cases n (r ∷ rs) a zero = a.0
 all_cases n (r ∷ rs) a (suc k) = all_cases n rs a.1 k

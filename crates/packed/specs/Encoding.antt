@@ -1,6 +1,6 @@
 -- How a grammar without gaps is written as a packed table, and which grammars fit into one.
 use Rattle.std.specs.Prelude.{ℕ, ◌-◌, ◌*◌, ◌/◌, ◌%◌, ◌<◌, ◌≤◌, List, [], ◌∷◌, ◌++◌, map, length, replicate}
-use Rattle.std.specs.List.{AllByRecursion as All}
+use Rattle.std.specs.List.{AllByRecursion}
 use Rattle.grammar.specs.Meaning.{Rule}
 use Rattle.grammar.specs.declared.Mark.{Mark}
 use Rattle.grammar.specs.declared.Mark.TheVariants.{Loose, Tight}
@@ -43,11 +43,11 @@ FitsPart n (Except x y z) = (x < 256) × (y < 256) × (z < 256)
 pub record FitsRule (n : ℕ) (r : Rule) : Type 0 where
   pub left_below : r.left < n
   pub few_parts : length r.parts ≤ 15
-  pub each_part : All (FitsPart n) r.parts
+  pub each_part : AllByRecursion (FitsPart n) r.parts
 
 pub record FitsTable (g : Listed) : Type 0 where
   pub some_symbol : 1 ≤ g.symbols
   pub few_symbols : g.symbols ≤ 256
   pub start_below : g.start < g.symbols
   pub few_rules : length g.rules ≤ 1000
-  pub each_rule : All (FitsRule g.symbols) g.rules
+  pub each_rule : AllByRecursion (FitsRule g.symbols) g.rules

@@ -1,6 +1,6 @@
 -- Laws of the packed table: the lawful tables are the encodings of the grammars that fit, one table for each grammar.
 use Rattle.std.specs.Prelude.{◌≡◌, ℕ, true, List}
-use Rattle.std.specs.List.{AllByRecursion as All}
+use Rattle.std.specs.List.{AllByRecursion}
 use Rattle.grammar.specs.Meaning.{Meaning}
 use Rattle.packed.specs.Format.{Listed, meaning_of, packed_meaning}
 use Rattle.packed.specs.Check.{is_lawful}
@@ -15,7 +15,7 @@ pub record LawfulJustThen (bs : List ℕ) : Type 0 where
   pub passes : IsEncoding bs → is_lawful bs ≡ true
 
 abbrev pub LawfulTablesAreTheEncodings : Type 0
-LawfulTablesAreTheEncodings = (bs : List ℕ) → All IsByte bs → LawfulJustThen bs
+LawfulTablesAreTheEncodings = (bs : List ℕ) → AllByRecursion IsByte bs → LawfulJustThen bs
 
 abbrev pub EncodingsMeanTheirGrammar : Type 0
 EncodingsMeanTheirGrammar = (g : Listed) → FitsTable g → packed_meaning (table_of g) ≡ meaning_of g
@@ -30,5 +30,5 @@ pub record SameAnswers (a b : Meaning) : Type 0 where
 -- the format has no slack
 abbrev pub OneTableForAGrammar : Type 0
 OneTableForAGrammar =
-    (bs cs : List ℕ) → All IsByte bs → All IsByte cs → is_lawful bs ≡ true → is_lawful cs ≡ true
+    (bs cs : List ℕ) → AllByRecursion IsByte bs → AllByRecursion IsByte cs → is_lawful bs ≡ true → is_lawful cs ≡ true
     → SameAnswers (packed_meaning bs) (packed_meaning cs) → bs ≡ cs

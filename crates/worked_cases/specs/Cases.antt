@@ -1,7 +1,7 @@
 -- The worked cases: cues as they are handed in, and what the check says of each.
 use Rattle.std.specs.Prelude.{◌≡◌, ℕ, List, [], ◌∷◌, ◌++◌, Ok, Err, codes}
 use Prim.Native.String.{String}
-use Rattle.std.specs.List.{AllByRecursion as All}
+use Rattle.std.specs.List.{AllByRecursion}
 use Rattle.guide.specs.Listing.{listing}
 use Rattle.guide.specs.LinkTable.{link_table}
 use Rattle.guide.specs.Told.{Told, defect_number}
@@ -141,5 +141,5 @@ sessions =
 
 abbrev pub WorkedCasesHold : Type 0
 WorkedCasesHold =
-    All Holds cases × All (λ t. blocks_for t.bytes ≡ t.blocks) texts
-    × All (λ s. cueline (lined s.input) ≡ lined (s.line ∷ [])) sessions
+    AllByRecursion Holds cases × AllByRecursion (λ t. blocks_for t.bytes ≡ t.blocks) texts
+    × AllByRecursion (λ s. cueline (lined s.input) ≡ lined (s.line ∷ [])) sessions
