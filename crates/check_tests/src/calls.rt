@@ -1,5 +1,5 @@
 // The calls on a memory: what is held, what is free, and every refusal of load, clear and fetch.
-use crate::cues::Cue;
+use crate::long_cues::Cue;
 use cues::answers::{Answer, Refusal};
 use cues::requests::{Request, perform};
 use grammar::house::House;

@@ -4,7 +4,7 @@
 #[cfg(test)]
 mod calls;
 #[cfg(test)]
-mod cues;
+mod long_cues;
 #[cfg(test)]
 mod other_forms;
 #[cfg(test)]
@@ -44,7 +44,7 @@ fn verdict_line(heap: Global, verdict: Verdict) -> Result<String, AllocError> {
 
 #[cfg(test)]
 mod tests {
-    use super::cues::Cue;
+    use super::long_cues::Cue;
     use super::verdict_line;
     use grammar::house::House;
     use guide::listing::Listing;

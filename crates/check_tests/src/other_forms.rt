@@ -1,5 +1,5 @@
 // The same check with link tables, layers and packed tables: the walk knows guides and grammars by their meaning only.
-use crate::cues::Cue;
+use crate::long_cues::Cue;
 use crate::tables::house_table;
 use crate::verdict_line;
 use grammar::Grammar;
