@@ -65,7 +65,7 @@ FekhtoviAnswer fekhtovi_check(
  * answers  is written from its front: a record for each call, and behind the record of a fetch its buffer
  *
  * It stops at the end of the script, at a call that is not whole, and where the answers have no place for the next call's. The answer is
- * how many bytes were written; the bytes behind them stay as they were. About 75,000 bytes of stack are used. */
+ * how many bytes were written; the bytes behind them stay as they were. About 45,000 bytes of stack are used. */
 size_t fekhtovi_replay(
     const uint8_t *script, size_t script_length,
     uint8_t *answers, size_t answers_length);
