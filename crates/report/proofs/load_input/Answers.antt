@@ -1,4 +1,4 @@
-use Rattle.std.proofs.Common.{◌≡◌, ℕ, ◌≤◌, List, length, sym, ap, ◌∙◌}
+use Rattle.std.proofs.Common.{◌≡◌, ℕ, ◌≤◌, List, length, sym, ap, ◌∙◌, rules}
 use Rattle.std.proofs.lemmas.Bool.{cond-true, le-leb}
 use Rattle.guide.specs.Told.{Told}
 use Rattle.guide.specs.Listing.{listing}
@@ -30,4 +30,4 @@ module _ (input text rest : List ℕ) (parted : Parted input text rest) (told : 
 pub returns : goal.returns
 returns c =
     loaded _ _ _ c.split_input.ensures _ c.new-guide.ensures _ _ _ _ _ _ _ c.if-input-gt-MOST_INPUT.false c.new-memory.ensures
-    c.perform-answer.ensures.sheet c.free.ensures
+    c.perform-answer.ensures.sheet (search rules)
