@@ -87,8 +87,8 @@ one_of true b x y r f e = inl (refl, e)
 one_of false true x y r f e = inr (refl, e)
 one_of false false x y r f e = absurd (subst Fits (sym e) f)
 
-line_in_form : (k z v c s : ℕ) (r : Record) → Fits r → record_of k z v c s ≡ r → (z ≡ 0) × (record_bytes k v c s ≡ bytes_of r)
-line_in_form k z v c s r f e =
+record_in_form : (k z v c s : ℕ) (r : Record) → Fits r → record_of k z v c s ≡ r → (z ≡ 0) × (record_bytes k v c s ≡ bytes_of r)
+record_in_form k z v c s r f e =
     elim (one_of (eqb k 1 && (eqb z 0 && leb v 9999)) (eqb k 2 && (eqb z 0 && (leb v 255 && eqb c 0))) _ _ r f e) [
       | inl p ↦
           let t = p.0 in
@@ -115,7 +115,7 @@ none_back (b ∷ bs) h = absurd (omega arith)
 one_back : (k z v1 v0 c1 c0 s1 s0 : ℕ) (bs : List ℕ) → ReadBack bs → ReadBack (k ∷ z ∷ v1 ∷ v0 ∷ c1 ∷ c0 ∷ s1 ∷ s0 ∷ bs)
 one_back k z v1 v0 c1 c0 s1 s0 bs i [] f w l h = absurd (nil_cons (sym h))
 one_back k z v1 v0 c1 c0 s1 s0 bs i (r ∷ rs) f w l h =
-    let q = line_in_form k z (field v1 v0) (field c1 c0) (field s1 s0) r f.0 cc in
+    let q = record_in_form k z (field v1 v0) (field c1 c0) (field s1 s0) r f.0 cc in
     let e = eight_back k v1 v0 c1 c0 s1 s0 w.1.1.1.0 w.1.1.1.1.1.0 w.1.1.1.1.1.1.1.0 in
     let rest = i rs f.1 w.1.1.1.1.1.1.1.1 (omega arith) cc in
     ap (λ (x : ℕ). k ∷ x ∷ v1 ∷ v0 ∷ c1 ∷ c0 ∷ s1 ∷ s0 ∷ bs) q.0 ∙ ap (λ x. x ++ bs) (e ∙ q.1) ∙ ap (λ x. bytes_of r ++ x) rest

@@ -20,7 +20,7 @@ length_pieces w (suc n) xs = ap suc (length_pieces w n (drop w xs))
 pub drop_piece : {X : Type 0} (w n : ℕ) (xs : List X) → drop (w * n) (drop w xs) ≡ drop (w * suc n) xs
 drop_piece w n xs = drop-drop (w * n) w xs ∙ ap (λ k. drop k xs) (add_comm w (w * n) ∙ sym (mul-suc w n))
 
-pub get_d_pieces : {X : Type 0} (w n : ℕ) (xs : List X) (k : ℕ) (d : List X) → k < n → slice_index_or (pieces w n xs) k d ≡ take w (drop (w * k) xs)
-get_d_pieces w zero xs k d l = absurd (omega arith)
-get_d_pieces w (suc n) xs zero d l = sym (ap (λ k. take w (drop k xs)) (mul-zero w))
-get_d_pieces w (suc n) xs (suc k) d l = get_d_pieces w n (drop w xs) k d (omega arith) ∙ ap (take w) (drop_piece w k xs)
+pub slice_index_or_pieces : {X : Type 0} (w n : ℕ) (xs : List X) (k : ℕ) (d : List X) → k < n → slice_index_or (pieces w n xs) k d ≡ take w (drop (w * k) xs)
+slice_index_or_pieces w zero xs k d l = absurd (omega arith)
+slice_index_or_pieces w (suc n) xs zero d l = sym (ap (λ k. take w (drop k xs)) (mul-zero w))
+slice_index_or_pieces w (suc n) xs (suc k) d l = slice_index_or_pieces w n (drop w xs) k d (omega arith) ∙ ap (take w) (drop_piece w k xs)
