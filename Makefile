@@ -3,7 +3,7 @@
 # make trials    compare the product with the second checker on random runs
 # make fuzz      compare the library with a second implementation in Rust, on 300,000 inputs
 # make bench     measure the library beside that implementation
-# make test      the merge gate: every proof, must-fail edit, program and test from nothing
+# make test      the merge gate: every proof, must-fail edit, program and test
 .PHONY: run rehearse trials fuzz bench test
 
 run: target/bin/cueline
