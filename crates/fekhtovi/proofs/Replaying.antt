@@ -30,19 +30,19 @@ goes_on blocks first held held' script before rest behind now place place' w k r
     ap (λ n. take n (drop w before)) (sym sized) ∙ (ap (take room) (sym same) ∙ sym taken) in
     let texts : held_after blocks held c (drop 80 (take (room_for c) (drop w before))) ≡ held' =
     ap (λ p. held_after blocks held c (drop 80 p)) room-is ∙ sym kept in
-    let behind-is : drop (room_for c) (drop w before) ≡ drop (w + room) before = ap (λ n. drop n (drop w before)) (sym sized) ∙ drop-drop room w before in
+    let behind_is : drop (room_for c) (drop w before) ≡ drop (w + room) before = ap (λ n. drop n (drop w before)) (sym sized) ∙ drop-drop room w before in
     let P : Texts → Type 0 = λ s. Replays blocks s behind (drop (w + room) before) out in
     let Q : List ℕ → Type 0 = λ bs. Replays blocks (held_after blocks held c (drop 80 (take (room_for c) (drop w before)))) behind bs out in
     let l = length-drop w before in
-    let Made-so = so_far (left blocks held c (take (room_for c) (drop w before)) ++ out)
-    (goes is (omega arith) (subst Q (sym behind-is) (subst P (sym texts) r))) in
+    let made_so = so_far (left blocks held c (take (room_for c) (drop w before)) ++ out)
+    (goes is (omega arith) (subst Q (sym behind_is) (subst P (sym texts) r))) in
     let wrote : take (w + room) (put_mid w k now place') ≡ take w now ++ place' = take-put_mid w k now place' (w + room) (omega arith) (omega arith) in
     let shown : take w now ++ (left blocks held c (take (room_for c) (drop w before)) ++ out) ≡ take (w + room) (put_mid w k now place') ++ out =
     ap (λ p. take w now ++ (left blocks held c p ++ out)) room-is
     ∙ (ap (λ p. take w now ++ (p ++ out)) (sym made)
     ∙ (sym (append_assoc (take w now) place' out) ∙ ap (λ t. t ++ out) (sym wrote))) in
     let R : List ℕ → Type 0 = λ o. Replays blocks first script before o in
-    subst R shown Made-so
+    subst R shown made_so
 
 -- what is behind stays
 pub stays : (before now place' : List ℕ) (w k room : ℕ) → w + room ≤ length before → length now ≡ length before → drop w now ≡ drop w before

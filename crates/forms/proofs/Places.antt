@@ -15,7 +15,7 @@ ask_placed true d n g h = h
 ask_placed false d n g h = refl
 
 reading_placed : (n : ℕ) (r : Record) (opened : List ℕ) (go : ℕ → List ℕ → Told)
-    → ((link : ℕ) (now-open : List ℕ) → PlacedAfter (n + 1) (go link now-open)) → PlacedAfter n (reading n r opened go)
+    → ((link : ℕ) (now_open : List ℕ) → PlacedAfter (n + 1) (go link now_open)) → PlacedAfter n (reading n r opened go)
 reading_placed n (Rule r child sibling) opened go h =
     ask_placed (ltb (length opened) 256) TooManyOpen n (Enter r and go child (sibling ∷ opened)) (h child (sibling ∷ opened))
 reading_placed n (Leaf b sibling) opened go h = h sibling opened
@@ -28,11 +28,11 @@ follow_placed n (r ∷ rs) zero [] = refl
 follow_placed n [] (suc k) opened = refl
 follow_placed n (r ∷ rs) (suc k) opened =
     ask_placed (eqb (suc k) n) BadLink n (reading n r opened (follow (n + 1) rs))
-    (reading_placed n r opened (follow (n + 1) rs) (λ link now-open. follow_placed (n + 1) rs link now-open))
+    (reading_placed n r opened (follow (n + 1) rs) (λ link now_open. follow_placed (n + 1) rs link now_open))
 
 begin_placed : (n : ℕ) (rs : List Record) (opened : List ℕ) → PlacedAfter n (begin n rs opened)
 begin_placed n [] opened = tt
-begin_placed n (r ∷ rs) opened = reading_placed n r opened (follow (n + 1) rs) (λ link now-open. follow_placed (n + 1) rs link now-open)
+begin_placed n (r ∷ rs) opened = reading_placed n r opened (follow (n + 1) rs) (λ link now_open. follow_placed (n + 1) rs link now_open)
 
 pub fault_place_counts_records : FaultPlaceCountsRecords
 fault_place_counts_records bs =

@@ -127,9 +127,9 @@ module _ (p : Phase) (n : ℕ) (unread rest : List ℕ) (link : ℕ) (slots : Li
         let q = done Here (Fault TooManyOpen (8 * n)) (asked false (le-ltb _ 256 (omega arith))) in
         rw (same, still) q
 
-    pub opened : (now-held : List ℕ) → depth < length slots → now-held ≡ sibling ∷ held slots depth
-        → (Next (Enter v) ≡ answer Here) × (follow (n + 1) (records rest) child now-held ≡ behind Here)
-    opened now-held room more =
+    pub opened : (now_held : List ℕ) → depth < length slots → now_held ≡ sibling ∷ held slots depth
+        → (Next (Enter v) ≡ answer Here) × (follow (n + 1) (records rest) child now_held ≡ behind Here)
+    opened now_held room more =
         let k = held_length slots depth in
         next_one Here _ (Enter v)
         (asked true (lt-ltb _ 256 (omega arith)) ∙ ap (λ o. Enter v and follow (n + 1) (records rest) child o) (sym more))

@@ -54,7 +54,7 @@ follow n rs zero (sibling ∷ opened) = Leave and follow n rs sibling opened
 follow n [] zero [] = finally End
 follow n (r ∷ rs) zero [] = fault_at RecordsUnread n
 follow n [] (suc k) opened = fault_at BadLink n
-follow n (r ∷ rs) (suc k) opened = ask (suc k == n) BadLink n (reading n r opened (λ link now-open. follow (n + 1) rs link now-open))
+follow n (r ∷ rs) (suc k) opened = ask (suc k == n) BadLink n (reading n r opened (λ link now_open. follow (n + 1) rs link now_open))
 
 -- the first record begins the walk; an empty table ends at once
 abbrev pub begin : ℕ → List Record → List ℕ → Told

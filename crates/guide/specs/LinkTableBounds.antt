@@ -58,7 +58,7 @@ ask_in true d n g h = h
 ask_in false d n g h = tt
 
 reading_in : (n : ℕ) (r : Record) (opened : List ℕ) (go : ℕ → List ℕ → Told) → ValueInRange r
-    → ((link : ℕ) (now-open : List ℕ) → InRange (go link now-open)) → InRange (reading n r opened go)
+    → ((link : ℕ) (now_open : List ℕ) → InRange (go link now_open)) → InRange (reading n r opened go)
 reading_in n (Rule r child sibling) opened go h k =
     ask_in (nat_lt (length opened) 256) TooManyOpen n (Enter r and go child (sibling ∷ opened)) (h, k child (sibling ∷ opened))
 reading_in n (Leaf b sibling) opened go h k = (h, k sibling opened)
@@ -71,12 +71,12 @@ follow_in n (r ∷ rs) zero [] h = tt
 follow_in n [] (suc k) opened h = tt
 follow_in n (r ∷ rs) (suc k) opened h =
     ask_in (suc k == n) BadLink n (reading n r opened (follow (n + 1) rs))
-    (reading_in n r opened (follow (n + 1) rs) h.0 (λ link now-open. follow_in (n + 1) rs link now-open h.1))
+    (reading_in n r opened (follow (n + 1) rs) h.0 (λ link now_open. follow_in (n + 1) rs link now_open h.1))
 
 begin_in : (n : ℕ) (rs : List Record) (opened : List ℕ) → AllInRange rs → InRange (begin n rs opened)
 begin_in n [] opened h = tt
 begin_in n (r ∷ rs) opened h =
-    reading_in n r opened (follow (n + 1) rs) h.0 (λ link now-open. follow_in (n + 1) rs link now-open h.1)
+    reading_in n r opened (follow (n + 1) rs) h.0 (λ link now_open. follow_in (n + 1) rs link now_open h.1)
 
 pub link_table_in_range : (p : Phase) (n : ℕ) (unread : List ℕ) (link : ℕ) (opened : List ℕ) → InRange (link_table_from p n unread link opened)
 link_table_in_range WrongLength n unread link opened = tt

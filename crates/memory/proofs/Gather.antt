@@ -14,7 +14,7 @@ gathered_more : (n : ℕ) (os : List ℕ) (bs : List (List ℕ)) (j : ℕ) → j
 gathered_more n os bs j h k = rw (drop_more os j 0 h, drop_more bs j [] k)
 
 -- the same where a loop goes from i to i - 1
-module _ (n : ℕ) (os : List ℕ) (bs : List (List ℕ)) (i : ℕ) (some : 0 < i) (in-os : i ≤ length os) (in-bs : i ≤ length bs) where
+module _ (n : ℕ) (os : List ℕ) (bs : List (List ℕ)) (i : ℕ) (some : 0 < i) (in_os : i ≤ length os) (in_bs : i ≤ length bs) where
   up : i - 1 + 1 ≡ i
   up = omega arith
 

@@ -130,7 +130,7 @@ Reached n text done i os bs os' bs' =
     (take i os' ≡ take i os) × (take i bs' ≡ take i bs) × Placing n text done (drop i os) (drop i bs) (drop i os') (drop i bs')
 
 module _ (n : ℕ) (text : List ℕ) (done i : ℕ) (os : List ℕ) (bs : List (List ℕ)) (os' : List ℕ) (bs' : List (List ℕ))
-    (some : 0 < i) (in-os : i ≤ length os) (in-bs : i ≤ length bs) (in-os' : i ≤ length os') (in-bs' : i ≤ length bs')
+    (some : 0 < i) (in_os : i ≤ length os) (in_bs : i ≤ length bs) (in_os' : i ≤ length os') (in_bs' : i ≤ length bs')
     (r : Reached n text done i os bs os' bs') where
   pub reached_skip : (get_or os' (i - 1) 0 ≡ n → ⊥) → (get_or os' (i - 1) 0 ≡ 0 → done ≡ length text) → Reached n text done (i - 1) os bs os' bs'
   reached_skip apart late =
@@ -139,7 +139,7 @@ module _ (n : ℕ) (text : List ℕ) (done i : ℕ) (os : List ℕ) (bs : List (
       let s = placing_skip n text done (drop i os) (drop i bs) (drop i os') (drop i bs') r.2 (get_or os' (i - 1) 0) (get_or bs' (i - 1) []) apart late in (
         take_less os' os i r.0,
         take_less bs' bs i r.1,
-        rw (drop_less os i 0 some in-os, drop_less bs i [] some in-bs, drop_less os' i 0 some in-os', drop_less bs' i [] some in-bs', ← o, ← b) s,
+        rw (drop_less os i 0 some in_os, drop_less bs i [] some in_bs, drop_less os' i 0 some in_os', drop_less bs' i [] some in_bs', ← o, ← b) s,
       )
 
   pub reached_take : (piece : List ℕ) (k : ℕ) → 0 < n → get_or os' (i - 1) 0 ≡ 0 → done < length text → length (get_or bs' (i - 1) []) ≡ 64
@@ -152,5 +152,5 @@ module _ (n : ℕ) (text : List ℕ) (done i : ℕ) (os : List ℕ) (bs : List (
       let s = placing_take n text done (drop i os) (drop i bs) (drop i os') (drop i bs') r.2 (get_or bs' (i - 1) []) piece k numbered left whole room copied in (
         take-set os' (i - 1) n ∙ take_less os' os i r.0,
         take-set bs' (i - 1) y ∙ take_less bs' bs i r.1,
-        rw (drop_less os i 0 some in-os, o, drop_less bs i [] some in-bs, ← b, drop_less_set os' i n some in-os', drop_less_set bs' i y some in-bs') s,
+        rw (drop_less os i 0 some in_os, o, drop_less bs i [] some in_bs, ← b, drop_less_set os' i n some in_os', drop_less_set bs' i y some in_bs') s,
       )

@@ -25,7 +25,7 @@ same_list (x ∷ xs) [] h = let e = h 0 in let z : ◌≡◌ {A = ℕ} 0 1 = cc 
 same_list (x ∷ xs) (y ∷ ys) h = let e = h 0 in let first : x ≡ y = cc in rw (first, same_list xs ys (λ n. h (suc n)))
 
 pub one_table_for_a_grammar : OneTableForAGrammar
-one_table_for_a_grammar bs cs bs-bytes cs-bytes bs-lawful cs-lawful same =
+one_table_for_a_grammar bs cs bs_bytes cs_bytes bs_lawful cs_lawful same =
     let rules = same_list (map rule_in (rows bs)) (map rule_in (rows cs)) same.rule_same in
     let listed : listed_in bs ≡ listed_in cs = rw (same.start_same, same.symbols_same, rules) in
-    sym (table_written bs bs-bytes (table_facts bs bs-lawful)) ∙ (ap table_of listed ∙ table_written cs cs-bytes (table_facts cs cs-lawful))
+    sym (table_written bs bs_bytes (table_facts bs bs_lawful)) ∙ (ap table_of listed ∙ table_written cs cs_bytes (table_facts cs cs_lawful))

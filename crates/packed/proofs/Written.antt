@@ -38,15 +38,15 @@ all_three P Q R S f xs p q r = all_with P (λ x. Q x × R x) S (λ x a b. f x a 
 by_kind : (n t a b c : ℕ) (one two : Bool) → eqb t 1 ≡ one → eqb t 2 ≡ two → c < 256
     → cond one (is_zero a && ltb (b * 256 + c) n) (cond two (leb a b && is_zero c) (eqb t 3)) ≡ true
     → part_bytes (cond one (Symbol (b * 256 + c)) (cond two (Range a b) (Except a b c))) ≡ t ∷ a ∷ b ∷ c ∷ []
-by_kind n t a b c true two is_one is-two small e =
+by_kind n t a b c true two is_one is_two small e =
     let kind = eqb-true t 1 is_one in
     let zero_is = eqb-true a 0 (and_parts (is_zero a) (ltb (b * 256 + c) n) e).0 in
     rw (kind, zero_is, high b c small, low b c small)
-by_kind n t a b c false true is_one is-two small e =
-    let kind = eqb-true t 2 is-two in
+by_kind n t a b c false true is_one is_two small e =
+    let kind = eqb-true t 2 is_two in
     let zero_is = eqb-true c 0 (and_parts (leb a b) (is_zero c) e).1 in
     rw (kind, zero_is)
-by_kind n t a b c false false is_one is-two small e = let kind = eqb-true t 3 e in rw kind
+by_kind n t a b c false false is_one is_two small e = let kind = eqb-true t 3 e in rw kind
 
 part_written : (n : ℕ) (slot : List ℕ) → length slot ≡ 4 → AllByRecursion IsByte slot → lawful_part n slot ≡ true → part_bytes (part_in slot) ≡ slot
 part_written n slot four bytes lawful =

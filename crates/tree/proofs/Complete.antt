@@ -97,7 +97,7 @@ pub every_parse_tree_is_accepted : EveryParseTreeIsAccepted
 every_parse_tree_is_accepted g D t p d l = every_parse_tree g D t p d l
 
 told_accepted : (g : Meaning) (D : ℕ) (text : List ℕ) (told : Told) (r b n : ℕ) → TreeTold g D text told r b n → verdict g D text told ≡ accepted r b n
-told_accepted g D text told r b n (t, w, r-is, b-is, n-is) =
+told_accepted g D text told r b n (t, w, r_is, b_is, n_is) =
     let lt = ap length w.spelled in
     ap (λ x. verdict g D x told) (sym w.spelled) ∙ ap (verdict g D (spells t)) (sym w.whole)
     ∙ every_parse_tree g D t w.parse w.shallow w.short

@@ -139,13 +139,13 @@ IsAccepted (Ok a) = Unit {0}
 IsAccepted (Err f) = ⊥
 
 module _ (g : Meaning) (D : ℕ) (v : Verdict) (acc : IsAccepted v) where
-  never-refused {ℓ} : {A : Type ℓ} (why : Reason) (e a : ℕ) → refused why e a ≡ v → A
-  never-refused why e a h = absurd (subst IsAccepted (sym h) acc)
+  never_refused {ℓ} : {A : Type ℓ} (why : Reason) (e a : ℕ) → refused why e a ≡ v → A
+  never_refused why e a h = absurd (subst IsAccepted (sym h) acc)
 
   -- in an accepted run the answer to each question is yes
   ask_on : (q : Bool) (why : Reason) (s : State) (x : Progress) (told : Told) → run g D (ask q why s x) told ≡ v → (q ≡ true) × (run g D x told ≡ v)
   ask_on true why s x told h = (refl, h)
-  ask_on false why s x told h = never-refused why s.events s.bytes h
+  ask_on false why s x told h = never_refused why s.events s.bytes h
 
   abbrev SoundAt : Told → Type 0
   SoundAt told = (s : State) → length s.older ≤ D → s.events ≤ 16000 → run g D (going s) told ≡ v → SomeRest g D v s told
@@ -166,23 +166,23 @@ module _ (g : Meaning) (D : ℕ) (v : Verdict) (acc : IsAccepted v) where
       verdict_is = sym h ∙ accepted_path (omega arith) (omega arith) (omega arith);
     },
   )
-  finish_is_sound End [] [] (c ∷ text) k m n hE h = never-refused TextLeft n m h
-  finish_is_sound End [] (ps ∷ pss) text k m n hE h = never-refused NotAwaited n m h
-  finish_is_sound End (p ∷ ps) pss text k m n hE h = never-refused NotAwaited n m h
-  finish_is_sound (Fault d place) ps pss text k m n hE h = never-refused (GuideFault d place) n m h
+  finish_is_sound End [] [] (c ∷ text) k m n hE h = never_refused TextLeft n m h
+  finish_is_sound End [] (ps ∷ pss) text k m n hE h = never_refused NotAwaited n m h
+  finish_is_sound End (p ∷ ps) pss text k m n hE h = never_refused NotAwaited n m h
+  finish_is_sound (Fault d place) ps pss text k m n hE h = never_refused (GuideFault d place) n m h
 
   module _ (told : Told) (sound-later : SoundAt told) where
     at_leave : (ps : List Part) (pss : List (List Part)) (text : List ℕ) (k m n : ℕ) → length pss ≤ D → n < 16000
         → run g D (on_leave (state ps pss text k m n) ps pss) told ≡ v → SomeRest g D v (state ps pss text k m n) (Leave and told)
-    at_leave [] [] text k m n hD hE h = never-refused NotAwaited n m h
+    at_leave [] [] text k m n hD hE h = never_refused NotAwaited n m h
     at_leave [] (ps ∷ pss) text k m n hD hE h =
         before_leave g D v ps pss text k m n told hD (sound-later (state ps pss text k m (n + 1)) (omega arith) (omega arith) h)
-    at_leave (p ∷ ps) pss text k m n hD hE h = never-refused NotAwaited n m h
+    at_leave (p ∷ ps) pss text k m n hD hE h = never_refused NotAwaited n m h
 
     at_leaf : (b : ℕ) (p : Part) (ps : List Part) (pss : List (List Part)) (text : List ℕ) (k m n : ℕ) → length pss ≤ D → n < 16000
         → allows p b ≡ true → run g D (next_byte (state (p ∷ ps) pss text k m n) b ps text) told ≡ v
         → SomeRest g D v (state (p ∷ ps) pss text k m n) (Byte b and told)
-    at_leaf b p ps pss [] k m n hD hE ok h = never-refused ByteNotNext n m h
+    at_leaf b p ps pss [] k m n hD hE ok h = never_refused ByteNotNext n m h
     at_leaf b p ps pss (c ∷ text) k m n hD hE ok h =
         let s = state (p ∷ ps) pss (c ∷ text) k m n in
         let (same, h') = ask_on (eqb b c) ByteNotNext s (going (read s ps text)) told h in
@@ -191,8 +191,8 @@ module _ (g : Meaning) (D : ℕ) (v : Verdict) (acc : IsAccepted v) where
 
     at_byte : (b : ℕ) (ps : List Part) (pss : List (List Part)) (text : List ℕ) (k m n : ℕ) → length pss ≤ D → n < 16000
         → run g D (on_byte (state ps pss text k m n) b ps) told ≡ v → SomeRest g D v (state ps pss text k m n) (Byte b and told)
-    at_byte b [] pss text k m n hD hE h = never-refused NotAwaited n m h
-    at_byte b (Symbol a ∷ ps) pss text k m n hD hE h = never-refused NotAwaited n m h
+    at_byte b [] pss text k m n hD hE h = never_refused NotAwaited n m h
+    at_byte b (Symbol a ∷ ps) pss text k m n hD hE h = never_refused NotAwaited n m h
     at_byte b (Range low high ∷ ps) pss text k m n hD hE h =
         let s = state (Range low high ∷ ps) pss text k m n in
         let (ok, h') = ask_on (allows (Range low high) b) ByteNotAllowed s (next_byte s b ps text) told h in
@@ -205,7 +205,7 @@ module _ (g : Meaning) (D : ℕ) (v : Verdict) (acc : IsAccepted v) where
     at_rule : (r a : ℕ) (o : Option Rule) (ps : List Part) (pss : List (List Part)) (text : List ℕ) (k m n : ℕ) → g.rule r ≡ o → n < 16000
         → run g D (enter_rule D (state (Symbol a ∷ ps) pss text k m n) a ps o) told ≡ v
         → SomeRest g D v (state (Symbol a ∷ ps) pss text k m n) (Enter r and told)
-    at_rule r a None ps pss text k m n e hE h = never-refused NoSuchRule n m h
+    at_rule r a None ps pss text k m n e hE h = never_refused NoSuchRule n m h
     at_rule r a (Some R) ps pss text k m n e hE h =
         let s = state (Symbol a ∷ ps) pss text k m n in
         let s' = entered s ps R.parts in
@@ -216,10 +216,10 @@ module _ (g : Meaning) (D : ℕ) (v : Verdict) (acc : IsAccepted v) where
 
     at_enter : (r : ℕ) (ps : List Part) (pss : List (List Part)) (text : List ℕ) (k m n : ℕ) → n < 16000
         → run g D (on_enter g D (state ps pss text k m n) r ps) told ≡ v → SomeRest g D v (state ps pss text k m n) (Enter r and told)
-    at_enter r [] pss text k m n hE h = never-refused NotAwaited n m h
+    at_enter r [] pss text k m n hE h = never_refused NotAwaited n m h
     at_enter r (Symbol a ∷ ps) pss text k m n hE h = at_rule r a (g.rule r) ps pss text k m n refl hE h
-    at_enter r (Range low high ∷ ps) pss text k m n hE h = never-refused NotAwaited n m h
-    at_enter r (Except x y z ∷ ps) pss text k m n hE h = never-refused NotAwaited n m h
+    at_enter r (Range low high ∷ ps) pss text k m n hE h = never_refused NotAwaited n m h
+    at_enter r (Except x y z ∷ ps) pss text k m n hE h = never_refused NotAwaited n m h
 
     at_event : (e : Event) (s : State) → length s.older ≤ D → s.events < 16000
         → run g D (of_kind g D s e) told ≡ v → SomeRest g D v s (e and told)
@@ -262,9 +262,9 @@ tree_told g D text told r b n (t then no_more) [] w =
     let f : spells t ≡ text = simp append-nil at w.spelled in
     let l = ap length same in
     let lf = ap length f in
-    let r-is = ap rules_of w.verdict_is in
-    let b-is = ap bytes_of w.verdict_is in
-    let n-is = ap steps_of w.verdict_is in (
+    let r_is = ap rules_of w.verdict_is in
+    let b_is = ap bytes_of w.verdict_is in
+    let n_is = ap steps_of w.verdict_is in (
       t,
       record { parse = w.matches.0; whole = e; spelled = f; shallow = omega (arith, w.shallow); short = omega (arith, w.short) },
       omega arith,
