@@ -1,16 +1,16 @@
 -- What the reader of a listing goes by.
-use Rattle.std.proofs.Common.{◌≡◌, ℕ, zero, suc, ◌+◌, ◌-◌, ◌*◌, ◌^◌, ◌<◌, ◌≤◌, true, false, eqb, List, [], ◌∷◌, length, get_or, take, drop, Some, None, sym, refl, ap, ◌∙◌, pow-suc, add-one, arith, length-take-le, drop-cons, drop-drop}
+use Rattle.std.proofs.Common.{◌≡◌, ℕ, zero, suc, ◌+◌, ◌-◌, ◌*◌, ◌^◌, ◌<◌, ◌≤◌, true, false, eqb, List, [], ◌∷◌, length, get_or, take, drop, Some, None, Option, Ok, Err, sym, refl, ap, ◌∙◌, pow-suc, add-one, arith, length-take-le, drop-cons, drop-drop}
 use lib.Seq.{take-length}
 use Rattle.std.proofs.lemmas.List.{take_rest, length-drop, drop_all}
 use Rattle.std.proofs.lemmas.Bool.Decides.{nat_tests as splits}
 use Rattle.std.proofs.lemmas.Bool.{cond-true, cond-false, eqb-true, ne_eqb, eq-eqb, le-leb}
-use Rattle.guide.specs.declared.Answer.TheVariants.{Next, Done}
 use Rattle.guide.specs.declared.Defect.TheVariants.{BadLine}
+use Rattle.std.specs.Option.{ok_or}
+use Rattle.guide.specs.declared.Fault.{Fault}
 use Rattle.guide.specs.declared.Event.{Event}
-use Rattle.guide.specs.declared.Finish.TheVariants.{End, Fault}
 use Rattle.guide.specs.Listing.{unended, ended, longer, lines, is_digit, decimal, line_event, telling, from_lines, listing_from}
 use Rattle.guide.specs.Lines.{LineRead}
-use Rattle.guide.specs.Told.{Told, finally, ◌and◌, answer, behind}
+use Rattle.guide.specs.Told.{End, defect_at, fault, Told, finally, ◌and◌, answer, behind}
 use Rattle.guide.proofs.Answering.{done, next_one}
 
 -- Digits.
@@ -86,9 +86,9 @@ module _ (bs : List ℕ) (at : ℕ) where
   Rest = take (length bs - at) (drop at bs)
 
   abbrev Bad : Type 0
-  Bad = from_lines at (lines (drop at bs)) ≡ finally (Fault BadLine at)
+  Bad = from_lines at (lines (drop at bs)) ≡ finally (fault BadLine at)
 
-  unended_bad : (l : List ℕ) → 0 < length l → from_lines at (unended l) ≡ finally (Fault BadLine at)
+  unended_bad : (l : List ℕ) → 0 < length l → from_lines at (unended l) ≡ finally (fault BadLine at)
   unended_bad [] h = absurd (omega arith)
   unended_bad (b ∷ l) h = refl
 
@@ -135,11 +135,17 @@ module _ (bs : List ℕ) (at : ℕ) (short : length bs ≤ 64000) where
   abbrev Here : Told
   Here = listing_from bs at
 
-  pub listing_end : length bs ≤ at → (Done End ≡ answer Here) × (Here ≡ behind Here)
+  pub listing_end : length bs ≤ at → (Ok None ≡ answer Here) × (Here ≡ behind Here)
   listing_end h = done Here End (short_listing at ∙ ap (λ l. from_lines at (lines l)) (drop_all at bs h))
 
-  pub listing_bad : at < length bs → LineRead bs at None → (Done (Fault BadLine at) ≡ answer Here) × (Here ≡ behind Here)
-  listing_bad h r = done Here (Fault BadLine at) (short_listing at ∙ r h)
+  pub listing_bad : (line : Option (Event × ℕ)) (f : Fault) → at < length bs → LineRead bs at line → Err f ≡ ok_or line (defect_at BadLine at)
+      → (Err f ≡ answer Here) × (Here ≡ behind Here)
+  listing_bad None f h r e = let q : f ≡ defect_at BadLine at = cc in rw q (done Here (fault BadLine at) (short_listing at ∙ r h))
+  listing_bad (Some l) f h r e = cc
 
-  pub listing_next : (e : Event) (n : ℕ) → LineRead bs at (Some (e, n)) → (Next e ≡ answer Here) × (listing_from bs n ≡ behind Here)
-  listing_next e n r = next_one Here _ e (short_listing at ∙ r.2 ∙ ap (λ g. e and g) (sym (short_listing n)))
+  pub listing_next : (line : Option (Event × ℕ)) (e : Event) (n : ℕ) → LineRead bs at line → Ok (e, n) ≡ ok_or line (defect_at BadLine at)
+      → (Ok (Some e) ≡ answer Here) × (listing_from bs n ≡ behind Here)
+  listing_next None e n r h = cc
+  listing_next (Some l) e n r h =
+      let p : (e, n) ≡ l = cc in
+      rw (← p) at (next_one Here _ l.0 (short_listing at ∙ r.2 ∙ ap (λ g. l.0 and g) (sym (short_listing l.1))))

@@ -3,10 +3,9 @@ use Rattle.std.specs.Prelude.{ℕ, zero, suc, ◌+◌, ◌*◌, ◌%◌, Bool, t
 use Rattle.guide.specs.declared.Defect.{Defect}
 use Rattle.guide.specs.declared.Defect.TheVariants.{TableLength, BadRecord, BadLink, TooManyOpen, RecordsUnread}
 use Rattle.guide.specs.declared.Event.TheVariants.{Enter, Byte, Leave}
-use Rattle.guide.specs.declared.Finish.TheVariants.{End, Fault}
 use Rattle.guide.specs.declared.records.Record.{Record}
 use Rattle.guide.specs.declared.records.Record.TheVariants.{Rule, Leaf, Malformed}
-use Rattle.guide.specs.Told.{Told, finally, ◌and◌}
+use Rattle.guide.specs.Told.{End, fault, Told, finally, ◌and◌}
 
 -- a big-endian field of two bytes
 abbrev pub field : ℕ → ℕ → ℕ
@@ -32,7 +31,7 @@ records (k ∷ z ∷ v1 ∷ v0 ∷ c1 ∷ c0 ∷ s1 ∷ s0 ∷ bs) = record_of k
 
 -- the fault behind n records whose events were told
 abbrev pub fault_at : Defect → ℕ → Told
-fault_at d n = finally (Fault d (8 * n))
+fault_at d n = finally (fault d (8 * n))
 
 -- g where the question is answered yes, else the fault
 abbrev pub ask : Bool → Defect → ℕ → Told → Told

@@ -7,7 +7,7 @@ ghost use Rattle.guide.specs.Steps.{link_table_from};
 
 use crate::stack::{pop, push};
 use crate::steps::{Phase, Step, first_phase, next_step};
-use crate::{Answer, Defect, Event, Finish, Guide};
+use crate::{Defect, Event, Fault, Guide};
 
 // How many nodes may be open at once.
 const MOST_OPEN: usize = 256;
@@ -45,40 +45,40 @@ impl<'a> Guide for LinkTable<'a> {
 
     ghost bounds = { λ s. link_table_in_range s.phase s.read s.unread.now s.link (held s.siblings s.depth) };
 
-    fn next(&mut self) -> Answer {
-        let (step, rest) = next_step(self.phase, self.unread, self.link, self.read);
+    fn next(&mut self) -> Result<Option<Event>, Fault> {
+        let (step, rest) = next_step(self.phase, self.unread, self.link, self.read)?;
         match step {
-            Step::Stop(finish) => Answer::Done(finish),
+            Step::Stop => Ok(None),
             Step::Close(finish) => match pop(&self.siblings, &mut self.depth) {
                 Some(sibling) => {
                     self.link = sibling;
-                    Answer::Next(Event::Leave)
+                    Ok(Some(Event::Leave))
                 }
-                None => Answer::Done(finish),
+                None => {
+                    finish?;
+                    Ok(None)
+                }
             },
             Step::Open {
                 value,
                 child,
                 sibling,
             } => {
-                if !push(&mut self.siblings, &mut self.depth, sibling) {
-                    return Answer::Done(Finish::Fault {
-                        defect: Defect::TooManyOpen,
-                        place: 8 * self.read,
-                    });
-                }
+                push(&mut self.siblings, &mut self.depth, sibling).or(Err(Defect::TooManyOpen.at(
+                    8 * self.read,
+                )))?;
                 self.unread = rest;
                 self.read += 1;
                 self.phase = Phase::Walk;
                 self.link = child;
-                Answer::Next(Event::Enter(value))
+                Ok(Some(Event::Enter(value)))
             }
             Step::Tell { value, sibling } => {
                 self.unread = rest;
                 self.read += 1;
                 self.phase = Phase::Walk;
                 self.link = sibling;
-                Answer::Next(Event::Byte(value))
+                Ok(Some(Event::Byte(value)))
             }
         }
     }

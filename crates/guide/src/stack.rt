@@ -3,16 +3,20 @@ ghost use Rattle.std.specs.Prelude.{◌≡◌};
 ghost use Rattle.std.specs.Option.{option_map};
 ghost use Rattle.guide.specs.Stack.{held, newest, Pushed, Popped};
 
-// Puts an entry on top; false, and nothing changed, where every slot is held.
-pub fn push<T: Copy>(slots: &mut [T], len: &mut usize, entry: T) -> bool
+// Every slot is held.
+#[derive(Clone, Copy, PartialEq, Eq)]
+pub struct Full;
+
+// Puts an entry on top; nothing changes where every slot is held.
+pub fn push<T: Copy>(slots: &mut [T], len: &mut usize, entry: T) -> Result<(), Full>
     ensures { Pushed slots.old len.old entry result slots.new len.new }
 {
     if *len >= slots.len() {
-        return false;
+        return Err(Full);
     }
     slots[*len] = entry;
     *len += 1;
-    true
+    Ok(())
 }
 
 // The newest entry.
