@@ -10,6 +10,7 @@ pub mod listing;
 mod records;
 pub mod stack;
 mod steps;
+pub mod written;
 
 // One event of a walk: a rule node is entered, a leaf's byte is told, or the newest open node is left.
 #[derive(Clone, Copy, PartialEq, Eq)]

@@ -26,7 +26,7 @@ pub struct LinkTable<'a> {
 
 impl<'a> LinkTable<'a> {
     pub fn new(bytes: &'a [u8]) -> LinkTable<'a>
-        ensures { link_table_from result.phase result.read result.unread.now result.link (held result.siblings result.depth) ≡ link_table bytes.now }
+        ensures { ⟦<LinkTable<'a> as Guide>⟧.told result ≡ link_table bytes.now }
     {
         let (phase, unread) = first_phase(bytes);
         LinkTable {

@@ -19,7 +19,7 @@ pub struct Listing<'a> {
 
 impl<'a> Listing<'a> {
     pub fn new(bytes: &'a [u8]) -> Listing<'a>
-        ensures { listing_from result.bytes.now result.offset ≡ listing bytes.now }
+        ensures { ⟦<Listing<'a> as Guide>⟧.told result ≡ listing bytes.now }
     {
         Listing { bytes, offset: 0 }
     }
