@@ -6,14 +6,13 @@ use Rattle.std.proofs.lemmas.Bool.{lt-ltb, le-ltb, cond-true, cond-false, eq-eqb
 use Rattle.guide.specs.declared.Defect.TheVariants.{TableLength, BadLink, TooManyOpen}
 use Rattle.guide.specs.declared.Fault.{Fault}
 use Rattle.guide.specs.declared.Event.TheVariants.{Enter}
-use Rattle.guide.specs.declared.records.Record.{Record}
-use Rattle.guide.specs.declared.records.Record.TheVariants.{Rule, Leaf, Malformed}
+use Rattle.guide.specs.declared.records.Record.TheVariants.{Rule, Leaf}
 use Rattle.guide.specs.declared.stack.Full.{Full}
 use Rattle.guide.specs.declared.steps.Phase.{Phase}
 use Rattle.guide.specs.declared.steps.Phase.TheVariants.{WrongLength, Begin, Walk}
 use Rattle.guide.specs.declared.steps.Step.{Step}
 use Rattle.guide.specs.declared.steps.Step.TheVariants.{Close, Open}
-use Rattle.guide.specs.LinkTable.{field, record_of, records, fault_at, ask, reading, follow, begin, link_table}
+use Rattle.guide.specs.LinkTable.{Entry, field, record_of, records, fault_at, ask, reading, follow, begin, link_table}
 use Rattle.guide.specs.LinkTableBounds.{by_records}
 use Rattle.guide.specs.Stack.{held, Pushed}
 use Rattle.guide.specs.Steps.{Split, link_table_from, Begun, read_step, all_read, decided, finish, step_told, outcome_told, Shorter, Takes}
@@ -23,7 +22,7 @@ use Rattle.guide.proofs.Stacks.{held_length, held_none}
 
 -- Records.
 -- the record in the first eight bytes
-abbrev first_record : List ℕ → Record
+abbrev first_record : List ℕ → Entry
 first_record bs =
     record_of (get_or bs 0 0) (get_or bs 1 0) (field (get_or bs 2 0) (get_or bs 3 0)) (field (get_or bs 4 0) (get_or bs 5 0)) (field (get_or bs 6 0) (get_or bs 7 0))
 
@@ -32,50 +31,50 @@ records_split =
     by_records (λ bs. 8 ≤ length bs → records bs ≡ first_record bs ∷ records (drop 8 bs)) (λ bs l e h. absurd (omega arith))
     (λ k z v1 v0 c1 c0 s1 s0 bs i h. refl)
 
-pub split_first : (bs : List ℕ) (r : Record) → 8 ≤ length bs → r ≡ first_record bs → Split bs (Some r) (take (length bs - 8) (drop 8 bs))
+pub split_first : (bs : List ℕ) (r : Entry) → 8 ≤ length bs → r ≡ first_record bs → Split bs (Some r) (take (length bs - 8) (drop 8 bs))
 split_first bs r h e = rw take_rest (simp length-drop (omega arith), records_split bs h ∙ ap (λ x. x ∷ records (drop 8 bs)) (sym e))
 
 -- Steps.
 -- a link other than 0, where b says whether it names the next record
-abbrev linked : Bool → ℕ → List Record → List ℕ → Told
+abbrev linked : Bool → ℕ → List Entry → List ℕ → Told
 linked b n [] opened = fault_at BadLink n
 linked b n (r ∷ rs) opened = ask b BadLink n (reading n r opened (follow (n + 1) rs))
 
-linked_is : (n k : ℕ) (rs : List Record) (opened : List ℕ) → follow n rs (suc k) opened ≡ linked (eqb (suc k) n) n rs opened
+linked_is : (n k : ℕ) (rs : List Entry) (opened : List ℕ) → follow n rs (suc k) opened ≡ linked (eqb (suc k) n) n rs opened
 linked_is n k [] opened = refl
 linked_is n k (r ∷ rs) opened = refl
 
 module _ (n : ℕ) (unread rest : List ℕ) where
   -- the records that a split leaves to the reader
-  abbrev seen : Option Record → List Record
+  abbrev seen : Option Entry → List Entry
   seen None = []
   seen (Some r) = r ∷ records rest
 
-  seen_is : (next : Option Record) → Split unread next rest → records unread ≡ seen next
+  seen_is : (next : Option Entry) → Split unread next rest → records unread ≡ seen next
   seen_is None s = s
   seen_is (Some r) s = s.1
 
-  linked_told : (b : Bool) (next : Option Record) (opened : List ℕ)
+  linked_told : (b : Bool) (next : Option Entry) (opened : List ℕ)
       → linked b n (seen next) opened ≡ outcome_told (cond b (read_step next n) (Err (defect_at BadLink (8 * n)))) n unread rest opened
   linked_told true None opened = refl
   linked_told false None opened = refl
-  linked_told true (Some (Rule r child sibling)) opened = refl
-  linked_told true (Some (Leaf b sibling)) opened = refl
-  linked_told true (Some Malformed) opened = refl
+  linked_told true (Some (Ok (Rule r child sibling))) opened = refl
+  linked_told true (Some (Ok (Leaf b sibling))) opened = refl
+  linked_told true (Some (Err d)) opened = refl
   linked_told false (Some r) opened = refl
 
-  begin_told : (next : Option Record) (link : ℕ) (opened : List ℕ)
+  begin_told : (next : Option Entry) (link : ℕ) (opened : List ℕ)
       → begin n (seen next) opened ≡ outcome_told (decided Begin next link n) n unread rest opened
   begin_told None link opened = refl
-  begin_told (Some (Rule r child sibling)) link opened = refl
-  begin_told (Some (Leaf b sibling)) link opened = refl
-  begin_told (Some Malformed) link opened = refl
+  begin_told (Some (Ok (Rule r child sibling))) link opened = refl
+  begin_told (Some (Ok (Leaf b sibling))) link opened = refl
+  begin_told (Some (Err d)) link opened = refl
 
-  finish_told : (next : Option Record) → follow n (seen next) zero [] ≡ finally (finish (all_read next n))
+  finish_told : (next : Option Entry) → follow n (seen next) zero [] ≡ finally (finish (all_read next n))
   finish_told None = refl
   finish_told (Some r) = refl
 
-  tells_step : (p : Phase) (link : ℕ) (next : Option Record) (opened : List ℕ) → Split unread next rest
+  tells_step : (p : Phase) (link : ℕ) (next : Option Entry) (opened : List ℕ) → Split unread next rest
       → link_table_from p n unread link opened ≡ outcome_told (decided p next link n) n unread rest opened
   tells_step WrongLength link next opened s = refl
   tells_step Begin link next opened s = ap (λ rs. begin n rs opened) (seen_is next s) ∙ begin_told next link opened
@@ -91,25 +90,25 @@ module _ (n : ℕ) (unread rest : List ℕ) where
   Behind (Ok s) = Shorter s unread rest
   Behind (Err f) = Unit {0}
 
-  read_shorter : (next : Option Record) → Split unread next rest → Behind (read_step next n)
+  read_shorter : (next : Option Entry) → Split unread next rest → Behind (read_step next n)
   read_shorter None s = tt
-  read_shorter (Some (Rule r child sibling)) s = s.0
-  read_shorter (Some (Leaf b sibling)) s = s.0
-  read_shorter (Some Malformed) s = tt
+  read_shorter (Some (Ok (Rule r child sibling))) s = s.0
+  read_shorter (Some (Ok (Leaf b sibling))) s = s.0
+  read_shorter (Some (Err d)) s = tt
 
-  walk_shorter : (none here : Bool) (next : Option Record) (f : Result Unit Fault) (g : Fault) → Split unread next rest
+  walk_shorter : (none here : Bool) (next : Option Entry) (f : Result Unit Fault) (g : Fault) → Split unread next rest
       → Behind (cond none (Ok (Close f)) (cond here (read_step next n) (Err g)))
   walk_shorter true here next f g s = tt
   walk_shorter false true next f g s = read_shorter next s
   walk_shorter false false next f g s = tt
 
-  step_shorter : (p : Phase) (link : ℕ) (next : Option Record) → Split unread next rest → Behind (decided p next link n)
+  step_shorter : (p : Phase) (link : ℕ) (next : Option Entry) → Split unread next rest → Behind (decided p next link n)
   step_shorter WrongLength link next s = tt
   step_shorter Begin link None s = tt
   step_shorter Begin link (Some r) s = read_shorter (Some r) s
   step_shorter Walk link next s = walk_shorter (eqb link 0) (eqb link n) next _ _ s
 
-  module _ (p : Phase) (link : ℕ) (next : Option Record) (split : Split unread next rest) where
+  module _ (p : Phase) (link : ℕ) (next : Option Entry) (split : Split unread next rest) where
     pub step_taken : (s : Step) → Ok s ≡ decided p next link n → Takes p n unread link s rest
     step_taken s e = record {
       tells = λ opened. rw (← e) at (tells_step p link next opened split);

@@ -1,20 +1,19 @@
 -- What the reader of a link table still tells, and the step that it takes next.
 use Rattle.std.specs.Prelude.{◌≡◌, ℕ, ◌+◌, ◌*◌, ◌≤◌, cond, List, [], ◌∷◌, length, Some, None, Option, Ok, Err, Result, ◌==◌, nat_lt}
 use Rattle.std.specs.Borrow.{Bor}
-use Rattle.guide.specs.declared.Defect.TheVariants.{TableLength, BadRecord, BadLink, TooManyOpen, RecordsUnread}
+use Rattle.guide.specs.declared.Defect.TheVariants.{TableLength, BadLink, TooManyOpen, RecordsUnread}
 use Rattle.guide.specs.declared.Fault.{Fault}
 use Rattle.guide.specs.declared.Event.TheVariants.{Enter, Byte, Leave}
-use Rattle.guide.specs.declared.records.Record.{Record}
-use Rattle.guide.specs.declared.records.Record.TheVariants.{Rule, Leaf, Malformed}
+use Rattle.guide.specs.declared.records.Record.TheVariants.{Rule, Leaf}
 use Rattle.guide.specs.declared.steps.Phase.{Phase}
 use Rattle.guide.specs.declared.steps.Phase.TheVariants.{WrongLength, Begin, Walk}
 use Rattle.guide.specs.declared.steps.Step.{Step}
 use Rattle.guide.specs.declared.steps.Step.TheVariants.{Stop, Close, Open, Tell}
 use Rattle.guide.specs.Told.{Finish, End, Broken, defect_at, Told, finally, ◌and◌}
-use Rattle.guide.specs.LinkTable.{records, fault_at, ask, begin, follow, link_table}
+use Rattle.guide.specs.LinkTable.{Entry, records, fault_at, ask, begin, follow, link_table}
 
 -- the first record of a table and the rest, or no record
-abbrev pub Split : List ℕ → Option Record → List ℕ → Type 0
+abbrev pub Split : List ℕ → Option Entry → List ℕ → Type 0
 Split table None rest = records table ≡ []
 Split table (Some r) rest = (length rest + 8 ≡ length table) × (records table ≡ r ∷ records rest)
 
@@ -29,25 +28,25 @@ pub record Begun (bs : List ℕ) (phase : Phase) (unread : List ℕ) : Type 0 wh
   pub tells : link_table_from phase 0 unread 0 [] ≡ link_table bs
   pub short : length unread ≤ 64000
 
--- the step at the record that is to be read as number n
-abbrev pub read_step : Option Record → ℕ → Result Step Fault
+-- the step at the entry that is to be read as number n
+abbrev pub read_step : Option Entry → ℕ → Result Step Fault
 read_step None n = Err (defect_at BadLink (8 * n))
-read_step (Some (Rule r child sibling)) n = Ok (Open r child sibling)
-read_step (Some (Leaf b sibling)) n = Ok (Tell b sibling)
-read_step (Some Malformed) n = Err (defect_at BadRecord (8 * n))
+read_step (Some (Ok (Rule r child sibling))) n = Ok (Open r child sibling)
+read_step (Some (Ok (Leaf b sibling))) n = Ok (Tell b sibling)
+read_step (Some (Err d)) n = Err (defect_at d (8 * n))
 
 -- the step that begins the walk
-abbrev pub begin_step : Option Record → ℕ → Result Step Fault
+abbrev pub begin_step : Option Entry → ℕ → Result Step Fault
 begin_step None n = Ok Stop
 begin_step (Some r) n = read_step (Some r) n
 
 -- with no node open and no link left, the walk is over, or records are unread
-abbrev pub all_read : Option Record → ℕ → Result Unit Fault
+abbrev pub all_read : Option Entry → ℕ → Result Unit Fault
 all_read None n = Ok tt
 all_read (Some r) n = Err (defect_at RecordsUnread (8 * n))
 
 -- the step in each phase, by the next record and the link
-abbrev pub decided : Phase → Option Record → ℕ → ℕ → Result Step Fault
+abbrev pub decided : Phase → Option Entry → ℕ → ℕ → Result Step Fault
 decided WrongLength next link n = Err (defect_at TableLength 0)
 decided Begin next link n = begin_step next n
 decided Walk next link n =

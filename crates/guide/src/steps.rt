@@ -43,7 +43,12 @@ pub(crate) fn first_phase(bytes: &[u8]) -> (Phase, &[u8])
 }
 
 // The step in a phase, by the next record and the link to follow, where `read` records were read.
-fn decide(phase: Phase, record: Option<Record>, link: u16, read: usize) -> Result<Step, Fault>
+fn decide(
+    phase: Phase,
+    record: Option<Result<Record, Defect>>,
+    link: u16,
+    read: usize,
+) -> Result<Step, Fault>
     requires { 8 * read ≤ 64000 }
     ensures { result ≡ decided phase «record» link read }
 {
@@ -55,15 +60,17 @@ fn decide(phase: Phase, record: Option<Record>, link: u16, read: usize) -> Resul
         (Phase::Walk, Some(_), 0) => Ok(Step::Close(Err(Defect::RecordsUnread.at(place)))),
         (Phase::Walk, None, _) => Err(Defect::BadLink.at(place)),
         (Phase::Walk, Some(_), _) if link as usize != read => Err(Defect::BadLink.at(place)),
-        (_, Some(Record::Malformed), _) => Err(Defect::BadRecord.at(place)),
+        (_, Some(Err(defect)), _) => Err(defect.at(place)),
         (
             _,
             Some(
-                Record::Rule {
-                    value,
-                    child,
-                    sibling,
-                },
+                Ok(
+                    Record::Rule {
+                        value,
+                        child,
+                        sibling,
+                    },
+                ),
             ),
             _,
         ) => Ok(Step::Open {
@@ -71,7 +78,7 @@ fn decide(phase: Phase, record: Option<Record>, link: u16, read: usize) -> Resul
             child,
             sibling,
         }),
-        (_, Some(Record::Leaf { value, sibling }), _) => Ok(Step::Tell { value, sibling }),
+        (_, Some(Ok(Record::Leaf { value, sibling })), _) => Ok(Step::Tell { value, sibling }),
     }
 }
 
