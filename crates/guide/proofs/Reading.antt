@@ -1,66 +1,74 @@
 -- What the reader of a listing goes by.
-use Rattle.std.proofs.Common.{◌≡◌, ℕ, zero, suc, ◌+◌, ◌-◌, ◌*◌, ◌^◌, ◌<◌, ◌≤◌, true, false, eqb, List, [], ◌∷◌, length, get_or, take, drop, Some, None, Option, Ok, Err, sym, refl, ap, ◌∙◌, pow-suc, add-one, arith, length-take-le, drop-cons, drop-drop}
+use Rattle.std.proofs.Common.{◌≡◌, ℕ, zero, suc, ◌+◌, ◌-◌, ◌*◌, ◌^◌, ◌<◌, ◌≤◌, true, false, eqb, List, [], ◌∷◌, length, get_or, take, drop, Bool, cond, Some, None, Option, Ok, Err, sym, refl, ap, ◌∙◌, pow-suc, add-one, arith, length-take-le, drop-cons, drop-drop}
 use lib.Seq.{take-length}
 use Rattle.std.proofs.lemmas.List.{take_rest, length-drop, drop_all}
-use Rattle.std.proofs.lemmas.Bool.Decides.{nat_tests as splits}
-use Rattle.std.proofs.lemmas.Bool.{cond-true, cond-false, eqb-true, ne_eqb, eq-eqb, le-leb}
+use Rattle.std.proofs.lemmas.Bool.{cond-true, cond-false, eqb-true, le-leb}
 use Rattle.guide.specs.declared.Defect.TheVariants.{BadLine}
 use Rattle.std.specs.Option.{ok_or}
+use Rattle.std.specs.List.{position, position_from}
+use Rattle.std.proofs.lemmas.List.Quantifiers.{position-Some}
+use Rattle.std.proofs.lemmas.Iterator.Adapters.{position_from-zero}
 use Rattle.guide.specs.declared.Fault.{Fault}
 use Rattle.guide.specs.declared.Event.{Event}
 use Rattle.guide.specs.Listing.{unended, ended, longer, lines, is_digit, decimal, line_event, telling, from_lines, listing_from}
-use Rattle.guide.specs.Lines.{LineRead}
+use Rattle.guide.specs.Lines.{decimal_digit, LineRead}
 use Rattle.guide.specs.Told.{End, defect_at, fault, Told, finally, ◌and◌, answer, behind}
 use Rattle.guide.proofs.Answering.{done, next_one}
 
 -- Digits.
-pub digit_no : (n : ℕ) (ds : List ℕ) (i : ℕ) → i < length ds → is_digit (get_or ds i 0) ≡ false → decimal n (drop i ds) ≡ None
-digit_no n ds i h e = ap (decimal n) (drop-cons ds i 0 h) ∙ cond-false (is_digit (get_or ds i 0)) _ None e
+no_value : (digit : Bool) (v : ℕ) (o : Option ℕ) → None ≡ cond digit (Some v) None → cond digit o None ≡ None
+no_value true v o e = cc
+no_value false v o e = refl
 
-pub digit_yes : (n : ℕ) (ds : List ℕ) (i : ℕ) → i < length ds → is_digit (get_or ds i 0) ≡ true
-    → decimal n (drop i ds) ≡ decimal (10 * n + (get_or ds i 0 - 48)) (drop (i + 1) ds)
-digit_yes n ds i h e =
-    ap (decimal n) (drop-cons ds i 0 h) ∙ cond-true (is_digit (get_or ds i 0)) _ None e
-    ∙ ap (λ (k : ℕ). decimal (10 * n + (get_or ds i 0 - 48)) (drop k ds)) (sym (add-one i))
+one_value : (digit : Bool) (v w : ℕ) (f : ℕ → Option ℕ) → Some w ≡ cond digit (Some v) None → cond digit (f v) None ≡ f w
+one_value true v w f e = let q : v ≡ w = cc in ap f q
+one_value false v w f e = cc
+
+pub digit_no : (n : ℕ) (ds : List ℕ) (i : ℕ) → i < length ds → None ≡ decimal_digit (get_or ds i 0) → decimal n (drop i ds) ≡ None
+digit_no n ds i h e = ap (decimal n) (drop-cons ds i 0 h) ∙ no_value (is_digit (get_or ds i 0)) _ _ e
+
+pub digit_yes : (n : ℕ) (ds : List ℕ) (i v : ℕ) → i < length ds → Some v ≡ decimal_digit (get_or ds i 0)
+    → decimal n (drop i ds) ≡ decimal (10 * n + v) (drop (i + 1) ds)
+digit_yes n ds i v h e =
+    ap (decimal n) (drop-cons ds i 0 h)
+    ∙ one_value (is_digit (get_or ds i 0)) _ v (λ (w : ℕ). decimal (10 * n + w) (drop (suc i) ds)) e
+    ∙ ap (λ (k : ℕ). decimal (10 * n + v) (drop k ds)) (sym (add-one i))
 
 pub decimal_end : (n : ℕ) (ds : List ℕ) (i : ℕ) → length ds ≤ i → decimal n (drop i ds) ≡ Some n
 decimal_end n ds i h = ap (decimal n) (drop_all i ds h)
 
-pub digit_below : (d : ℕ) → d < 48 → is_digit d ≡ false
-digit_below d h = grind (arith, splits)
-
-pub digit_above : (d : ℕ) → 57 < d → is_digit d ≡ false
-digit_above d h = grind (arith, splits)
-
-pub digit_in : (d : ℕ) → 48 ≤ d → d ≤ 57 → is_digit d ≡ true
-digit_in d h k = grind (arith, splits)
-
 -- one more digit fits below the next power of ten
-pub tens : (n d i : ℕ) → n < 10 ^ i → d ≤ 57 → 10 * n + (d - 48) < 10 ^ (i + 1)
+pub tens : (n d i : ℕ) → n < 10 ^ i → d < 10 → 10 * n + d < 10 ^ (i + 1)
 tens n d i h k = let e : 10 ^ (i + 1) ≡ 10 ^ i * 10 = ap (λ (j : ℕ). 10 ^ j) (add-one i) ∙ pow-suc 10 i in omega arith
 
 -- Lines.
 -- the first byte 10 ends the first line
-line_found : (bs : List ℕ) (i : ℕ) → i < length bs → ((k : ℕ) → k < i → get_or bs k 0 ≡ 10 → ⊥) → get_or bs i 0 ≡ 10
+line_found : (bs : List ℕ) (i : ℕ) → i < length bs → eqb (get_or bs i 0) 10 ≡ true → ((k : ℕ) → k < i → eqb (get_or bs k 0) 10 ≡ false)
     → lines bs ≡ ended (take i bs) (lines (drop (suc i) bs))
-line_found [] i h before e = absurd (omega arith)
-line_found (b ∷ bs) zero h before e = cond-true (eqb b 10) _ _ (eq-eqb b 10 e)
-line_found (b ∷ bs) (suc i) h before e =
-    cond-false (eqb b 10) _ _ (ne_eqb b 10 (before 0 (omega arith)))
-    ∙ ap (longer b) (line_found bs i (omega arith) (λ k l. before (suc k) (omega arith)) e)
+line_found [] i h e before = absurd (omega arith)
+line_found (b ∷ bs) zero h e before = cond-true (eqb b 10) _ _ e
+line_found (b ∷ bs) (suc i) h e before =
+    cond-false (eqb b 10) _ _ (before 0 (omega arith))
+    ∙ ap (longer b) (line_found bs i (omega arith) e (λ k l. before (suc k) (omega arith)))
 
-pub line_here : (bs : List ℕ) (i : ℕ) → i < length bs → ((k : ℕ) → k < i → get_or bs k 0 ≡ 10 → ⊥) → get_or bs i 0 ≡ 10
-    → (length (take (i - 0) bs) < length bs) × (lines bs ≡ ended (take (i - 0) bs) (lines (drop (length (take (i - 0) bs) + 1) bs)))
-line_here bs i h before e =
-    let z : i - 0 ≡ i = omega arith in
+pub line_here : (bs : List ℕ) (i : ℕ) → position (λ b. eqb b 10) bs ≡ Some i
+    → (length (take i bs) < length bs) × (lines bs ≡ ended (take i bs) (lines (drop (length (take i bs) + 1) bs)))
+line_here bs i e =
+    let p = position-Some (λ b. eqb b 10) bs i 0 e in
     let l : length (take i bs) ≡ i = length-take-le i bs (omega arith) in
-    rw z (rw l (h, line_found bs i h before e ∙ ap (λ (k : ℕ). ended (take i bs) (lines (drop k bs))) (sym (add-one i))))
+    rw l (p.0, line_found bs i p.0 p.1 p.2 ∙ ap (λ (k : ℕ). ended (take i bs) (lines (drop k bs))) (sym (add-one i)))
 
-pub line_unended : (bs : List ℕ) → ((k : ℕ) → k < length bs → get_or bs k 0 ≡ 10 → ⊥) → lines bs ≡ unended bs
-line_unended [] before = refl
-line_unended (b ∷ bs) before =
-    cond-false (eqb b 10) _ _ (ne_eqb b 10 (before 0 (omega arith)))
-    ∙ ap (longer b) (line_unended bs (λ k l. before (suc k) (omega arith)))
+unended_after : (ending : Bool) (b k : ℕ) (bs : List ℕ) (later : Option ℕ) → (later ≡ None → lines bs ≡ unended bs)
+    → cond ending (Some k) later ≡ None → cond ending (ended [] (lines bs)) (longer b (lines bs)) ≡ unended (b ∷ bs)
+unended_after true b k bs later h e = cc
+unended_after false b k bs later h e = ap (longer b) (h e)
+
+unended_from : (k : ℕ) (bs : List ℕ) → position_from (λ b. eqb b 10) k bs ≡ None → lines bs ≡ unended bs
+unended_from k [] e = refl
+unended_from k (b ∷ bs) e = unended_after (eqb b 10) b k bs (position_from (λ c. eqb c 10) (k + 1) bs) (unended_from (k + 1) bs) e
+
+pub line_unended : (bs : List ℕ) → position (λ b. eqb b 10) bs ≡ None → lines bs ≡ unended bs
+line_unended bs e = unended_from 0 bs (sym (position_from-zero (λ b. eqb b 10) bs) ∙ e)
 
 -- a line is its first byte and the rest
 pub first_and_rest : (l : List ℕ) (b : ℕ) → 1 ≤ length l → get_or l 0 0 ≡ b → b ∷ take (length l - 1) (drop 1 l) ≡ l

@@ -1,5 +1,5 @@
 -- A line in form, as it stands in the listing, and what the reader learns at an offset.
-use Rattle.std.specs.Prelude.{◌≡◌, ℕ, ◌+◌, ◌<◌, ◌≤◌, List, [], ◌∷◌, length, drop, Some, None, Option}
+use Rattle.std.specs.Prelude.{◌≡◌, ℕ, ◌+◌, ◌-◌, ◌<◌, ◌≤◌, cond, List, [], ◌∷◌, length, drop, Some, None, Option}
 use Rattle.std.specs.Borrow.{Bor}
 use Rattle.guide.specs.declared.Defect.TheVariants.{BadLine}
 use Rattle.guide.specs.declared.Event.{Event}
@@ -7,7 +7,11 @@ use Rattle.guide.specs.declared.lines.Form.{Form}
 use Rattle.guide.specs.declared.lines.Form.TheVariants.{Open, Value, Close}
 use Rattle.guide.specs.declared.lines.Line.{Line}
 use Rattle.guide.specs.Told.{fault, finally, ◌and◌}
-use Rattle.guide.specs.Listing.{unended, ended, lines, line_event, from_lines}
+use Rattle.guide.specs.Listing.{is_digit, unended, ended, lines, line_event, from_lines}
+
+-- the value of a decimal digit
+abbrev pub decimal_digit : ℕ → Option ℕ
+decimal_digit b = cond (is_digit b) (Some (b - 48)) None
 
 -- the bytes of a form's line, without its ending
 abbrev pub written : Form → List ℕ
