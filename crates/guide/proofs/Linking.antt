@@ -5,13 +5,13 @@ use Rattle.std.proofs.lemmas.List.{take_rest, length-drop}
 use Rattle.std.proofs.lemmas.Bool.{lt-ltb, le-ltb, cond-true, cond-false, eq-eqb, ne_eqb, le-leb, lt-leb, and_from, and_left, and_right}
 use Rattle.guide.specs.declared.Defect.TheVariants.{TableLength, BadLink, TooManyOpen}
 use Rattle.guide.specs.declared.Fault.{Fault}
-use Rattle.guide.specs.declared.Event.TheVariants.{Enter}
+use Rattle.guide.specs.declared.Event.TheVariants.{Enter, Byte}
 use Rattle.guide.specs.declared.records.Record.TheVariants.{Rule, Leaf}
 use Rattle.guide.specs.declared.stack.Full.{Full}
 use Rattle.guide.specs.declared.steps.Phase.{Phase}
 use Rattle.guide.specs.declared.steps.Phase.TheVariants.{WrongLength, Begin, Walk}
 use Rattle.guide.specs.declared.steps.Step.{Step}
-use Rattle.guide.specs.declared.steps.Step.TheVariants.{Close, Open}
+use Rattle.guide.specs.declared.steps.Step.TheVariants.{Close, Open, Tell}
 use Rattle.guide.specs.LinkTable.{Entry, field, record_of, records, fault_at, ask, reading, follow, begin, link_table}
 use Rattle.guide.specs.LinkTableBounds.{by_records}
 use Rattle.guide.specs.Stack.{held, Pushed}
@@ -148,6 +148,14 @@ module _ (p : Phase) (n : ℕ) (unread rest : List ℕ) (link : ℕ) (slots : Li
         next_one Here _ (Enter v)
         (asked true (lt-ltb _ 256 (omega arith)) ∙ ap (λ o. Enter v and follow (n + 1) (records rest) child o) (sym h.3))
     opened (Err full) slots' depth' u h e = cc
+
+-- A leaf is told.
+pub leaf_told : (p : Phase) (n : ℕ) (unread rest : List ℕ) (link : ℕ) (slots : List ℕ) (depth : ℕ) (s : Step) (b sibling : ℕ) → s ≡ Tell b sibling
+    → Takes p n unread link s rest
+    → (Ok (Some (Byte b)) ≡ answer (link_table_from p n unread link (held slots depth)))
+    × (follow (n + 1) (records rest) sibling (held slots depth) ≡ behind (link_table_from p n unread link (held slots depth)))
+leaf_told p n unread rest link slots depth s b sibling taken step_is =
+    next_one _ _ (Byte b) (step_is.tells (held slots depth) ∙ ap (λ x. step_told x n unread rest (held slots depth)) taken)
 
 -- The length of the table.
 pub wrong_length : (bs : List ℕ) → ((length bs % 8 ≡ 0 → ⊥) ⊎ ((length bs % 8 ≡ 0) × (64000 < length bs))) → fault_at TableLength 0 ≡ link_table bs

@@ -47,18 +47,16 @@ impl<'a> Guide for LinkTable<'a> {
 
     fn next(&mut self) -> Result<Option<Event>, Fault> {
         let (step, rest) = next_step(self.phase, self.unread, self.link, self.read)?;
-        match step {
-            Step::Stop => Ok(None),
-            Step::Close(finish) => match pop(&self.siblings, &mut self.depth) {
-                Some(sibling) => {
-                    self.link = sibling;
-                    Ok(Some(Event::Leave))
-                }
-                None => {
+        let (event, link) = match step {
+            Step::Stop => return Ok(None),
+            Step::Close(finish) => {
+                let Some(sibling) = pop(&self.siblings, &mut self.depth) else {
                     finish?;
-                    Ok(None)
-                }
-            },
+                    return Ok(None);
+                };
+                self.link = sibling;
+                return Ok(Some(Event::Leave));
+            }
             Step::Open {
                 value,
                 child,
@@ -67,19 +65,14 @@ impl<'a> Guide for LinkTable<'a> {
                 push(&mut self.siblings, &mut self.depth, sibling).or(Err(Defect::TooManyOpen.at(
                     8 * self.read,
                 )))?;
-                self.unread = rest;
-                self.read += 1;
-                self.phase = Phase::Walk;
-                self.link = child;
-                Ok(Some(Event::Enter(value)))
+                (Event::Enter(value), child)
             }
-            Step::Tell { value, sibling } => {
-                self.unread = rest;
-                self.read += 1;
-                self.phase = Phase::Walk;
-                self.link = sibling;
-                Ok(Some(Event::Byte(value)))
-            }
-        }
+            Step::Tell { value, sibling } => (Event::Byte(value), sibling),
+        };
+        self.unread = rest;
+        self.read += 1;
+        self.phase = Phase::Walk;
+        self.link = link;
+        Ok(Some(event))
     }
 }
