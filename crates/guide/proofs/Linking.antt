@@ -1,9 +1,9 @@
 -- What the reader of a link table goes by.
-use Rattle.std.proofs.Common.{◌≡◌, ℕ, zero, suc, ◌+◌, ◌-◌, ◌*◌, ◌%◌, ◌<◌, ◌≤◌, Bool, true, false, cond, eqb, ltb, ◌⊎◌, List, [], ◌∷◌, length, get_or, take, drop, Some, None, Option, Ok, Err, Result, sym, refl, ap, ◌∙◌, inl, inr, arith}
+use Rattle.std.proofs.Common.{◌≡◌, ℕ, zero, suc, ◌+◌, ◌-◌, ◌*◌, ◌≤◌, Bool, true, false, cond, eqb, ltb, List, [], ◌∷◌, length, get_or, take, drop, Some, None, Option, Ok, Err, Result, sym, refl, ap, ◌∙◌, arith}
 use Rattle.std.specs.Result.{result_or}
 use Rattle.std.proofs.lemmas.List.{take_rest, length-drop}
-use Rattle.std.proofs.lemmas.Bool.{lt-ltb, le-ltb, cond-true, cond-false, eq-eqb, ne_eqb, le-leb, lt-leb, and_from, and_left, and_right}
-use Rattle.guide.specs.declared.Defect.TheVariants.{TableLength, BadLink, TooManyOpen}
+use Rattle.std.proofs.lemmas.Bool.{lt-ltb, le-ltb, cond-false, ne_eqb}
+use Rattle.guide.specs.declared.Defect.TheVariants.{BadLink, TooManyOpen}
 use Rattle.guide.specs.declared.Fault.{Fault}
 use Rattle.guide.specs.declared.Event.TheVariants.{Enter, Byte}
 use Rattle.guide.specs.declared.records.Record.TheVariants.{Rule, Leaf}
@@ -156,14 +156,6 @@ pub leaf_told : (p : Phase) (n : ℕ) (unread rest : List ℕ) (link : ℕ) (slo
     × (follow (n + 1) (records rest) sibling (held slots depth) ≡ behind (link_table_from p n unread link (held slots depth)))
 leaf_told p n unread rest link slots depth s b sibling taken step_is =
     next_one _ _ (Byte b) (step_is.tells (held slots depth) ∙ ap (λ x. step_told x n unread rest (held slots depth)) taken)
-
--- The length of the table.
-pub wrong_length : (bs : List ℕ) → ((length bs % 8 ≡ 0 → ⊥) ⊎ ((length bs % 8 ≡ 0) × (64000 < length bs))) → fault_at TableLength 0 ≡ link_table bs
-wrong_length bs (inl h) = sym (cond-false _ _ _ (and_left _ _ (ne_eqb _ _ h)))
-wrong_length bs (inr h) = sym (cond-false _ _ _ (and_right _ _ (lt-leb _ _ h.1)))
-
-pub right_length : (bs : List ℕ) → length bs % 8 ≡ 0 → length bs ≤ 64000 → begin 0 (records bs) [] ≡ link_table bs
-right_length bs h k = sym (cond-true _ _ _ (and_from _ _ (eq-eqb _ _ h) (le-leb _ _ k)))
 
 -- no node is open where the reader begins
 pub begun_told : (bs : List ℕ) (p : Phase) (unread slots : List ℕ) → Begun bs p unread → link_table_from p 0 unread 0 (held slots 0) ≡ link_table bs

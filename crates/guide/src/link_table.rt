@@ -62,9 +62,8 @@ impl<'a> Guide for LinkTable<'a> {
                 child,
                 sibling,
             } => {
-                push(&mut self.siblings, &mut self.depth, sibling).or(Err(Defect::TooManyOpen.at(
-                    8 * self.read,
-                )))?;
+                let full = Defect::TooManyOpen.at(8 * self.read);
+                push(&mut self.siblings, &mut self.depth, sibling).or(Err(full))?;
                 (Event::Enter(value), child)
             }
             Step::Tell { value, sibling } => (Event::Byte(value), sibling),
