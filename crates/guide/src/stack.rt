@@ -23,21 +23,14 @@ pub fn push<T: Copy>(slots: &mut [T], len: &mut usize, entry: T) -> Result<(), F
 pub fn top<T>(slots: &[T], len: usize) -> Option<&T>
     ensures { option_map (λ x. x.now) result ≡ newest (held slots.now len) }
 {
-    let len = len.min(slots.len());
-    if len == 0 {
-        return None;
-    }
-    Some(&slots[len - 1])
+    slots[..len.min(slots.len())].last()
 }
 
 // Takes the newest entry off.
 pub fn pop<T: Copy>(slots: &[T], len: &mut usize) -> Option<T>
     ensures { Popped slots.now len.old result len.new }
 {
-    let count = (*len).min(slots.len());
-    if count == 0 {
-        return None;
-    }
-    *len = count - 1;
-    Some(slots[count - 1])
+    let newest = *top(slots, *len)?;
+    *len = (*len).min(slots.len()) - 1;
+    Some(newest)
 }
