@@ -13,6 +13,7 @@ use crate::{Defect, Event, Fault, Guide};
 const MOST_OPEN: usize = 256;
 
 // A table of which `read` records were read, and the siblings of its open nodes, on a stack.
+// There is no heap, so the stack is an array and a count, as its functions take them.
 #[derive(Drop)]
 pub struct LinkTable<'a> {
     unread: &'a [u8],

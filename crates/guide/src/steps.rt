@@ -43,6 +43,7 @@ pub(crate) fn first_phase(bytes: &[u8]) -> (Phase, &[u8])
 }
 
 // The step in a phase, by the next record and the link to follow, where `read` records were read.
+// The link is matched as it stands in its record, where 0 leads nowhere.
 fn decide(
     phase: Phase,
     record: Option<Result<Record, Defect>>,
