@@ -1,11 +1,9 @@
 -- What is proved of walks and of the check, in the words of parse trees.
-use Rattle.std.specs.Prelude.{◌≡◌, ℕ, ◌+◌, ◌*◌, ◌≤◌, ◌↔◌, List, [], ◌∷◌, ◌++◌, length}
-use Rattle.guide.specs.declared.Answer.TheVariants.{Done}
-use Rattle.guide.specs.declared.Defect.{Defect}
+use Rattle.std.specs.Prelude.{◌≡◌, ℕ, ◌+◌, ◌*◌, ◌≤◌, ◌↔◌, List, [], ◌∷◌, ◌++◌, length, Err}
 use Rattle.guide.specs.declared.Event.{Event}
 use Rattle.guide.specs.declared.Event.TheVariants.{Enter, Byte, Leave}
-use Rattle.guide.specs.declared.Finish.TheVariants.{End, Fault}
-use Rattle.guide.specs.Told.{Told, ahead, tells, answer}
+use Rattle.guide.specs.declared.Fault.{Fault}
+use Rattle.guide.specs.Told.{End, Told, ahead, tells, answer}
 use Rattle.grammar.specs.Meaning.{Meaning}
 use Rattle.tree.specs.declared.verdict.Reason.{Reason}
 use Rattle.tree.specs.declared.verdict.Reason.TheVariants.{GuideFault}
@@ -62,7 +60,7 @@ bytes_in (Leave ∷ es) = bytes_in es
 
 -- A refusal for the reason `why` with the counts `events` and `bytes`: so many events came before the refused answer, and the bytes among
 -- them, so many, are the first of the text. Every guide that begins with these events and has the same next answer is refused alike.
--- The reason is a fault exactly where that answer is the fault, with the guide's own defect and place.
+-- The reason is a fault exactly where that answer is this fault.
 pub record RefusedThere (g : Meaning) (D : ℕ) (text : List ℕ) (told : Told) (why : Reason) (events bytes : ℕ) : Type 0 where
   pub before : List Event
   pub rest : Told
@@ -72,7 +70,7 @@ pub record RefusedThere (g : Meaning) (D : ℕ) (text : List ℕ) (told : Told) 
   pub used : bytes_in before ++ unused ≡ text
   pub used_counted : length (bytes_in before) ≡ bytes
   pub alike : (rest' : Told) → answer rest' ≡ answer rest → verdict g D text (ahead before rest') ≡ refused why events bytes
-  pub faulty : (d : Defect) (p : ℕ) → (why ≡ GuideFault d p) ↔ (answer rest ≡ Done (Fault d p))
+  pub faulty : (f : Fault) → (why ≡ GuideFault f) ↔ (answer rest ≡ Err f)
 
 -- the verdict v, if it refuses, says where
 abbrev pub RefusedWhere : Meaning → ℕ → List ℕ → Told → Verdict → Type 0
