@@ -1,5 +1,5 @@
 -- The walk of a parse tree within the limits is accepted.
-use Rattle.std.proofs.Common.{◌≡◌, ℕ, ◌+◌, ◌<◌, ◌≤◌, true, List, [], ◌∷◌, ◌++◌, length, Some, sym, refl, ap, ◌∙◌, append_assoc, append-nil, add-zero, arith, length-append}
+use Rattle.std.proofs.Common.{◌≡◌, ℕ, ◌+◌, ◌<◌, ◌≤◌, true, List, [], ◌∷◌, ◌++◌, length, Some, sym, refl, ap, ◌∙◌, append_assoc, append-nil, arith, length-append}
 use Rattle.std.proofs.lemmas.Bool.Decides.{nat_tests}
 use Rattle.guide.specs.declared.Event.{Event}
 use Rattle.guide.specs.declared.Event.TheVariants.{Enter, Byte, Leave}
@@ -10,18 +10,16 @@ use Rattle.grammar.specs.Meaning.{Rule, Meaning, allows}
 use Rattle.tree.specs.Tree.{Tree, leaf, node, Children, no_more, ◌then◌, walk, walk_all, spells, spell_all, rules, rules_all, depth, depth_all}
 use Rattle.tree.specs.Parse.{Matches, MatchAll}
 use Rattle.tree.specs.Verdict.{accepted}
-use Rattle.tree.specs.Check.{State, going, entered, enter_rule, on_byte, of_kind, run, verdict}
+use Rattle.tree.specs.Check.{State, going, run, verdict}
 use Rattle.tree.specs.Theorems.{AcceptedExactlyWhenATreeIsTold, OneTreeIsTold, EveryParseTreeIsAccepted}
 use Rattle.tree.proofs.Walks.{ahead_append, walk_length, walk_determines_tree}
-use Rattle.tree.proofs.Sound.{state, TreeTold, accepted_told}
+use Rattle.tree.proofs.Sound.{TreeTold, accepted_told}
+
+abbrev state : List Part → List (List Part) → List ℕ → ℕ → ℕ → ℕ → State
+state ps pss text k m n = record { parts = ps; older = pss; text = text; rules = k; bytes = m; events = n }
 
 accepted_path : {r r' b b' n n' : ℕ} → r ≡ r' → b ≡ b' → n ≡ n' → accepted r b n ≡ accepted r' b' n'
 accepted_path p q s = cc
-
--- an allowed byte that is the next of the text
-byte_yes : (b : ℕ) (p : Part) (ps : List Part) (pss : List (List Part)) (text : List ℕ) (k m n : ℕ) → allows p b ≡ true
-    → on_byte (state (p ∷ ps) pss (b ∷ text) k m n) b (p ∷ ps) ≡ going (state ps pss text k (m + 1) (n + 1))
-byte_yes b p ps pss text k m n ok = grind (arith, nat_tests)
 
 module _ (g : Meaning) (D : ℕ) where
   -- the same but for how its counts are written
@@ -29,12 +27,20 @@ module _ (g : Meaning) (D : ℕ) where
       → run g D (going (state ps pss text k m n)) told ≡ run g D (going (state ps pss text k' m' n')) told
   counted ps pss text told p q r = cc
 
-  few_yes : (s : State) (e : Event) (told : Told) → s.events < 16000 → run g D (going s) (e and told) ≡ run g D (of_kind g D s e) told
-  few_yes s e told h = grind (arith, nat_tests)
+  -- an event to which each question is answered yes
+  enter_yes : (r : ℕ) (R : Rule) (ps : List Part) (pss : List (List Part)) (text : List ℕ) (k m n : ℕ) (told : Told) → g.rule r ≡ Some R
+      → length pss < D → n < 16000
+      → run g D (going (state (Symbol R.left ∷ ps) pss text k m n)) (Enter r and told)
+      ≡ run g D (going (state R.parts (ps ∷ pss) text (k + 1) m (n + 1))) told
+  enter_yes r R ps pss text k m n told e d few = grind (arith, nat_tests)
 
-  rule_yes : (r : ℕ) (R : Rule) (ps : List Part) (s : State) → g.rule r ≡ Some R → length s.older < D
-      → enter_rule D s R.left ps (g.rule r) ≡ going (entered s ps R.parts)
-  rule_yes r R ps s e h = grind (arith, nat_tests)
+  byte_yes : (b : ℕ) (p : Part) (ps : List Part) (pss : List (List Part)) (text : List ℕ) (k m n : ℕ) (told : Told) → allows p b ≡ true → n < 16000
+      → run g D (going (state (p ∷ ps) pss (b ∷ text) k m n)) (Byte b and told) ≡ run g D (going (state ps pss text k (m + 1) (n + 1))) told
+  byte_yes b p ps pss text k m n told ok few = grind (arith, nat_tests)
+
+  leave_yes : (ps : List Part) (pss : List (List Part)) (text : List ℕ) (k m n : ℕ) (told : Told) → n < 16000
+      → run g D (going (state [] (ps ∷ pss) text k m n)) (Leave and told) ≡ run g D (going (state ps pss text k m (n + 1))) told
+  leave_yes ps pss text k m n told few = grind (arith, nat_tests)
 
   -- a run over the whole walk of a tree that matches the awaited part
   mutual
@@ -43,18 +49,13 @@ module _ (g : Meaning) (D : ℕ) where
         → run g D (going (state (p ∷ ps) pss (spells t ++ text) k m n)) (ahead (walk t) told)
         ≡ run g D (going (state ps pss text (k + rules t) (m + length (spells t)) (n + length (walk t)))) told
     through (leaf b) p ps pss text k m n told ok hD hE =
-        cc (few_yes (state (p ∷ ps) pss (b ∷ text) k m n) (Byte b) told (omega arith), byte_yes b p ps pss text k m n ok, add-zero k)
+        byte_yes b p ps pss text k m n told ok (omega arith) ∙ counted ps pss text told (omega arith) (omega arith) (omega arith)
     through (node r ts) p ps pss text k m n told (R, e, same, fit) hD hE =
         let lw : length (walk (node r ts)) ≡ length (walk_all ts) + 2 = simp length-append (omega arith) in
-        let s = state (Symbol R.left ∷ ps) pss (spell_all ts ++ text) k m n in
-        let s' = state [] (ps ∷ pss) text (k + 1 + rules_all ts) (m + length (spell_all ts)) (n + 1 + length (walk_all ts)) in
-        let inside = ahead (walk_all ts ++ (Leave ∷ [])) told in
-        rw same
-        (few_yes s (Enter r) inside (omega arith)
-        ∙ ap (λ x. run g D x inside) (rule_yes r R ps s e (omega arith))
-        ∙ ap (run g D (going (entered s ps R.parts))) (ahead_append (walk_all ts) (Leave ∷ []) told)
+        rw (same, ahead_append (walk_all ts) (Leave ∷ []) told)
+        (enter_yes r R ps pss (spell_all ts ++ text) k m n _ e (omega arith) (omega arith)
         ∙ through_all ts R.parts (ps ∷ pss) text (k + 1) m (n + 1) (Leave and told) fit (omega arith) (omega arith)
-        ∙ few_yes s' Leave told (omega arith)
+        ∙ leave_yes ps pss text _ _ _ told (omega arith)
         ∙ counted ps pss text told (omega arith) refl (omega arith))
 
     through_all : (ts : Children) (ps : List Part) (pss : List (List Part)) (text : List ℕ) (k m n : ℕ) (told : Told) → MatchAll g ps ts
@@ -86,11 +87,13 @@ pub accepted_exactly_when_a_tree_is_told : AcceptedExactlyWhenATreeIsTold
 accepted_exactly_when_a_tree_is_told g D text told r b n = (accepted_told g D text told r b n, told_accepted g D text told r b n)
 
 -- what is told gives the events back
-events_told : (es fs : List Event) → tells es End ≡ tells fs End → es ≡ fs
-events_told [] [] e = refl
-events_told [] (f ∷ fs) e = cc
-events_told (x ∷ es) [] e = cc
-events_told (x ∷ es) (f ∷ fs) e = cc (events_told es fs cc)
+abbrev events_of : Told → List Event
+events_of (finally f) = []
+events_of (e and told) = e ∷ events_of told
+
+events_of_tells : (es : List Event) → events_of (tells es End) ≡ es
+events_of_tells [] = refl
+events_of_tells (e ∷ es) = cc (events_of_tells es)
 
 pub one_tree_is_told : OneTreeIsTold
-one_tree_is_told g D text told t u w w' = walk_determines_tree t u (events_told (walk t) (walk u) (w.whole ∙ sym w'.whole))
+one_tree_is_told g D text told t u w w' = walk_determines_tree t u (cc (events_of_tells (walk t), events_of_tells (walk u)))

@@ -1,19 +1,17 @@
 -- What a check accepts is the walk of a parse tree: from the rest of an accepted run come the trees that the rest tells.
-use Rattle.std.proofs.Common.{◌≡◌, ℕ, ◌+◌, ◌*◌, ◌<◌, ◌≤◌, Bool, true, eqb, ltb, List, [], ◌∷◌, ◌++◌, length, Some, None, Ok, Option, sym, refl, ap, ◌∙◌, subst, append_assoc, append-nil, arith}
-use Rattle.std.proofs.lemmas.Bool.{eqb-true, ltb-true}
+use Rattle.std.proofs.Common.{◌≡◌, ℕ, ◌+◌, ◌*◌, ◌≤◌, true, List, [], ◌∷◌, ◌++◌, length, Some, Ok, sym, refl, ap, ◌∙◌, append_assoc, append-nil, arith}
+use Rattle.std.proofs.lemmas.Bool.Decides.{nat_tests}
 use Rattle.guide.specs.declared.Event.{Event}
 use Rattle.guide.specs.declared.Event.TheVariants.{Enter, Byte, Leave}
-use Rattle.guide.specs.Told.{Finish, End, Broken, Told, finally, ◌and◌, tells}
+use Rattle.guide.specs.Told.{Finish, End, Told, finally, ◌and◌, tells}
 use Rattle.grammar.specs.declared.Part.{Part}
-use Rattle.grammar.specs.declared.Part.TheVariants.{Symbol, Range, Except}
+use Rattle.grammar.specs.declared.Part.TheVariants.{Symbol}
 use Rattle.grammar.specs.Meaning.{Rule, Meaning, allows}
 use Rattle.tree.specs.declared.verdict.Accepted.{Accepted}
-use Rattle.tree.specs.declared.verdict.Reason.{Reason}
-use Rattle.tree.specs.declared.verdict.Reason.TheVariants.{TooManyEvents, OtherSymbol, TooDeep, ByteNotAllowed, ByteNotNext}
 use Rattle.tree.specs.Tree.{Tree, leaf, node, Children, no_more, ◌then◌, walk, walk_all, spells, spell_all, rules, rules_all, depth_all}
 use Rattle.tree.specs.Parse.{MatchAll}
 use Rattle.tree.specs.Verdict.{accepted}
-use Rattle.tree.specs.Check.{State, Progress, going, ask, begin, entered, read, enter_rule, on_enter, next_byte, on_byte, on_leave, of_kind, at_finish, run, verdict}
+use Rattle.tree.specs.Check.{State, Progress, going, over, begin, entered, read, left, on_event, at_finish, run, verdict}
 use Rattle.tree.specs.Theorems.{TellsTree}
 use Rattle.tree.proofs.Walks.{walk_length}
 
@@ -71,21 +69,93 @@ record Rest (g : Meaning) (D : ℕ) (all : Accepted) (s : State) (told : Told) (
 abbrev SomeRest : Meaning → ℕ → Accepted → State → Told → Type 0
 SomeRest g D all s told = (ts : Children) × (uss : List Children) × Rest g D all s told ts uss
 
-abbrev pub state : List Part → List (List Part) → List ℕ → ℕ → ℕ → ℕ → State
-state ps pss text k m n = record { parts = ps; older = pss; text = text; rules = k; bytes = m; events = n }
+-- What an accepted event found where the check stood, and where the check stands then.
+record EnterFound (g : Meaning) (s s' : State) (r : ℕ) : Type 0 where
+  rule : Rule
+  parts : List Part
+  known : g.rule r ≡ Some rule
+  awaited : s.parts ≡ Symbol rule.left ∷ parts
+  next : s' ≡ entered s parts rule.parts
+
+record ByteFound (s s' : State) (b : ℕ) : Type 0 where
+  part : Part
+  parts : List Part
+  text : List ℕ
+  awaited : s.parts ≡ part ∷ parts
+  here : s.text ≡ b ∷ text
+  allowed : allows part b ≡ true
+  next : s' ≡ read s parts text
+
+record LeaveFound (s s' : State) : Type 0 where
+  parts : List Part
+  older : List (List Part)
+  complete : s.parts ≡ []
+  opened : s.older ≡ parts ∷ older
+  next : s' ≡ left s parts older
+
+module _ (g : Meaning) (D : ℕ) (s s' : State) where
+  enter_found : (r : ℕ) → on_event g D s (Enter r) ≡ going s' → EnterFound g s s' r
+  enter_found r h = grind (arith, nat_tests)
+
+  byte_found : (b : ℕ) → on_event g D s (Byte b) ≡ going s' → ByteFound s s' b
+  byte_found b h = grind (arith, nat_tests)
+
+  leave_found : on_event g D s Leave ≡ going s' → LeaveFound s s'
+  leave_found h = grind (arith, nat_tests)
+
+  -- an accepted event leaves the check within the limits
+  within : (e : Event) → length s.older ≤ D → on_event g D s e ≡ going s' → (length s'.older ≤ D) × (s'.events ≤ 16000)
+  within e hD h = grind (arith, nat_tests)
+
+-- no event ends the check with an acceptance
+never_over : (g : Meaning) (D : ℕ) (s : State) (e : Event) (all : Accepted) → on_event g D s e ≡ over (Ok all) → ⊥
+never_over g D s e all h = grind (arith, nat_tests)
+
+-- the end is accepted where nothing is awaited and no text is left
+record Ended (s : State) (f : Finish) (all : Accepted) : Type 0 where
+  finish : f ≡ End
+  complete : s.parts ≡ []
+  closed : s.older ≡ []
+  read_all : s.text ≡ []
+  rules_are : all.rules ≡ s.rules
+  bytes_are : all.bytes ≡ s.bytes
+  steps_are : all.steps ≡ s.events + 1
+
+ended : (s : State) (f : Finish) (all : Accepted) → at_finish s f ≡ Ok all → Ended s f all
+ended s f all h = grind arith
 
 module _ (g : Meaning) (D : ℕ) (all : Accepted) where
+  abbrev SoundAt : Told → Type 0
+  SoundAt told = (s : State) → length s.older ≤ D → s.events ≤ 16000 → run g D (going s) told ≡ Ok all → SomeRest g D all s told
+
+  finish_is_sound : (f : Finish) (s : State) → s.events ≤ 16000 → at_finish s f ≡ Ok all → SomeRest g D all s (finally f)
+  finish_is_sound f s hE h =
+      let l = ended s f all h in
+      let o = ap length l.read_all in (
+        no_more,
+        [],
+        record {
+          matches = rw l.complete tt;
+          later = rw l.closed tt;
+          whole = rw l.finish refl;
+          spelled = sym l.read_all;
+          shallow_later = tt;
+          adds = omega arith;
+        },
+      )
+
   -- One event put before the rest of an accepted run.
-  module _ (told : Told) (k m n : ℕ) where
-    before_leave : (ps : List Part) (pss : List (List Part)) (text : List ℕ) → length (ps ∷ pss) ≤ D
-        → SomeRest g D all (state ps pss text k m (n + 1)) told → SomeRest g D all (state [] (ps ∷ pss) text k m n) (Leave and told)
-    before_leave ps pss text hD (ts, uss, w) =
-        let e : length pss ≡ length uss = later_length g pss uss w.later in (
+  module _ (told : Told) (s s' : State) (rest : SomeRest g D all s' told) where
+    before_leave : LeaveFound s s' → length s.older ≤ D → SomeRest g D all s (Leave and told)
+    before_leave l hD =
+        let (ts, uss, w) = rw l.next at rest in
+        let same : length l.older ≡ length uss = later_length g l.older uss w.later in
+        let o = ap length l.opened in (
           no_more,
           ts ∷ uss,
           record {
-            matches = tt;
-            later = (w.matches, w.later);
+            matches = rw l.complete tt;
+            later = rw l.opened (w.matches, w.later);
             whole = ap (λ x. Leave and x) w.whole;
             spelled = w.spelled;
             shallow_later = (w.adds.shallow, w.shallow_later);
@@ -93,36 +163,35 @@ module _ (g : Meaning) (D : ℕ) (all : Accepted) where
           },
         )
 
-    before_byte : (b : ℕ) (p : Part) (ps : List Part) (pss : List (List Part)) (text : List ℕ) → allows p b ≡ true
-        → SomeRest g D all (state ps pss text k (m + 1) (n + 1)) told
-        → SomeRest g D all (state (p ∷ ps) pss (b ∷ text) k m n) (Byte b and told)
-    before_byte b p ps pss text ok (ts, uss, w) = (
-      leaf b then ts,
-      uss,
-      record {
-        matches = (ok, w.matches);
-        later = w.later;
-        whole = ap (λ x. Byte b and x) w.whole;
-        spelled = ap (λ l. b ∷ l) w.spelled;
-        shallow_later = w.shallow_later;
-        adds = omega arith;
-      },
-    )
+    before_byte : (b : ℕ) → ByteFound s s' b → SomeRest g D all s (Byte b and told)
+    before_byte b l =
+        let (ts, uss, w) = rw l.next at rest in
+        let o = ap length l.here in (
+          leaf b then ts,
+          uss,
+          record {
+            matches = rw l.awaited (l.allowed, w.matches);
+            later = w.later;
+            whole = ap (λ x. Byte b and x) w.whole;
+            spelled = cc (w.spelled, l.here);
+            shallow_later = w.shallow_later;
+            adds = omega arith;
+          },
+        )
 
     entered_events : (r : ℕ) (ts us : Children) (uss : List Children) → Enter r ∷ events ts (us ∷ uss) ≡ events (node r ts then us) uss
     entered_events r ts us uss = simp append_assoc
 
-    before_enter : (r : ℕ) (R : Rule) (ps : List Part) (pss : List (List Part)) (text : List ℕ) → g.rule r ≡ Some R
-        → SomeRest g D all (state R.parts (ps ∷ pss) text (k + 1) m (n + 1)) told
-        → SomeRest g D all (state (Symbol R.left ∷ ps) pss text k m n) (Enter r and told)
-    before_enter r R ps pss text e (ts, [], w) = absurd w.later
-    before_enter r R ps pss text e (ts, us ∷ uss, w) =
+    before_enter : (r : ℕ) (l : EnterFound g s s' r) (ts : Children) (uss : List Children)
+        → Rest g D all (entered s l.parts l.rule.parts) told ts uss → SomeRest g D all s (Enter r and told)
+    before_enter r l ts [] w = absurd w.later
+    before_enter r l ts (us ∷ uss) w =
         let same = entered_events r ts us uss in
-        let l = ap length same in (
+        let o = ap length same in (
           node r ts then us,
           uss,
           record {
-            matches = ((R, e, refl, w.matches), w.later.0);
+            matches = rw l.awaited ((l.rule, l.known, refl, w.matches), w.later.0);
             later = w.later.1;
             whole = ap (λ es. tells es End) (sym same) ∙ ap (λ x. Enter r and x) w.whole;
             spelled = simp append_assoc w.spelled;
@@ -131,89 +200,21 @@ module _ (g : Meaning) (D : ℕ) (all : Accepted) where
           },
         )
 
-  -- in an accepted run the answer to each question is yes
-  ask_on : (q : Bool) (why : Reason) (s : State) (x : Progress) (told : Told) → run g D (ask q why s x) told ≡ Ok all
-      → (q ≡ true) × (run g D x told ≡ Ok all)
-  ask_on q why s x told h = grind arith
+    before_event : (e : Event) → on_event g D s e ≡ going s' → length s.older ≤ D → SomeRest g D all s (e and told)
+    before_event (Enter r) st hD =
+        let l = enter_found g D s s' r st in let (ts, uss, w) = rw l.next at rest in before_enter r l ts uss w
+    before_event (Byte b) st hD = before_byte b (byte_found g D s s' b st)
+    before_event Leave st hD = before_leave (leave_found g D s s' st) hD
 
-  abbrev SoundAt : Told → Type 0
-  SoundAt told = (s : State) → length s.older ≤ D → s.events ≤ 16000 → run g D (going s) told ≡ Ok all → SomeRest g D all s told
-
-  finish_is_sound : (f : Finish) (ps : List Part) (pss : List (List Part)) (text : List ℕ) (k m n : ℕ) → n ≤ 16000
-      → at_finish (state ps pss text k m n) f ≡ Ok all → SomeRest g D all (state ps pss text k m n) (finally f)
-  finish_is_sound End [] [] [] k m n hE h = (
-    no_more,
-    [],
-    record { matches = tt; later = tt; whole = refl; spelled = refl; shallow_later = tt; adds = grind arith },
-  )
-  finish_is_sound End [] [] (c ∷ text) k m n hE h = cc
-  finish_is_sound End [] (ps ∷ pss) text k m n hE h = cc
-  finish_is_sound End (p ∷ ps) pss text k m n hE h = cc
-  finish_is_sound (Broken f) ps pss text k m n hE h = cc
-
-  -- the next event of an accepted run, where what comes behind it is sound
-  module _ (told : Told) (sound-later : SoundAt told) (k m n : ℕ) (few : n < 16000) where
-    at_leave : (ps : List Part) (pss : List (List Part)) (text : List ℕ) → length pss ≤ D
-        → run g D (on_leave (state ps pss text k m n) ps pss) told ≡ Ok all → SomeRest g D all (state ps pss text k m n) (Leave and told)
-    at_leave [] [] text hD h = cc
-    at_leave [] (ps ∷ pss) text hD h =
-        before_leave told k m n ps pss text hD (sound-later (state ps pss text k m (n + 1)) (omega arith) (omega arith) h)
-    at_leave (p ∷ ps) pss text hD h = cc
-
-    at_next : (b : ℕ) (p : Part) (ps : List Part) (pss : List (List Part)) (text : List ℕ) → length pss ≤ D → allows p b ≡ true
-        → run g D (next_byte (state (p ∷ ps) pss text k m n) b ps text) told ≡ Ok all
-        → SomeRest g D all (state (p ∷ ps) pss text k m n) (Byte b and told)
-    at_next b p ps pss [] hD ok h = cc
-    at_next b p ps pss (c ∷ text) hD ok h =
-        let s = state (p ∷ ps) pss (c ∷ text) k m n in
-        let (same, h') = ask_on (eqb b c) ByteNotNext s (going (read s ps text)) told h in
-        subst (λ (x : ℕ). SomeRest g D all (state (p ∷ ps) pss (x ∷ text) k m n) (Byte b and told)) (eqb-true b c same)
-        (before_byte told k m n b p ps pss text ok (sound-later (read s ps text) hD (omega arith) h'))
-
-    at_leaf : (b : ℕ) (p : Part) (ps : List Part) (pss : List (List Part)) (text : List ℕ) → length pss ≤ D
-        → (let s = state (p ∷ ps) pss text k m n in run g D (ask (allows p b) ByteNotAllowed s (next_byte s b ps text)) told ≡ Ok all)
-        → SomeRest g D all (state (p ∷ ps) pss text k m n) (Byte b and told)
-    at_leaf b p ps pss text hD h =
-        let s = state (p ∷ ps) pss text k m n in
-        let (ok, h') = ask_on (allows p b) ByteNotAllowed s (next_byte s b ps text) told h in at_next b p ps pss text hD ok h'
-
-    at_byte : (b : ℕ) (ps : List Part) (pss : List (List Part)) (text : List ℕ) → length pss ≤ D
-        → run g D (on_byte (state ps pss text k m n) b ps) told ≡ Ok all → SomeRest g D all (state ps pss text k m n) (Byte b and told)
-    at_byte b [] pss text hD h = cc
-    at_byte b (Symbol a ∷ ps) pss text hD h = cc
-    at_byte b (Range low high ∷ ps) pss text hD h = at_leaf b (Range low high) ps pss text hD h
-    at_byte b (Except x y z ∷ ps) pss text hD h = at_leaf b (Except x y z) ps pss text hD h
-
-    at_rule : (r a : ℕ) (o : Option Rule) (ps : List Part) (pss : List (List Part)) (text : List ℕ) → g.rule r ≡ o
-        → run g D (enter_rule D (state (Symbol a ∷ ps) pss text k m n) a ps o) told ≡ Ok all
-        → SomeRest g D all (state (Symbol a ∷ ps) pss text k m n) (Enter r and told)
-    at_rule r a None ps pss text e h = cc
-    at_rule r a (Some R) ps pss text e h =
-        let s = state (Symbol a ∷ ps) pss text k m n in
-        let s' = entered s ps R.parts in
-        let (same, h') = ask_on (eqb R.left a) OtherSymbol s (ask (ltb (length pss) D) TooDeep s (going s')) told h in
-        let (room, h'') = ask_on (ltb (length pss) D) TooDeep s (going s') told h' in
-        subst (λ (x : ℕ). SomeRest g D all (state (Symbol x ∷ ps) pss text k m n) (Enter r and told)) (eqb-true R.left a same)
-        (before_enter told k m n r R ps pss text e (sound-later s' (ltb-true (length pss) D room) (omega arith) h''))
-
-    at_enter : (r : ℕ) (ps : List Part) (pss : List (List Part)) (text : List ℕ)
-        → run g D (on_enter g D (state ps pss text k m n) r ps) told ≡ Ok all → SomeRest g D all (state ps pss text k m n) (Enter r and told)
-    at_enter r [] pss text h = cc
-    at_enter r (Symbol a ∷ ps) pss text h = at_rule r a (g.rule r) ps pss text refl h
-    at_enter r (Range low high ∷ ps) pss text h = cc
-    at_enter r (Except x y z ∷ ps) pss text h = cc
-
-  at_event : (told : Told) → SoundAt told → (e : Event) (s : State) → length s.older ≤ D → s.events < 16000
-      → run g D (of_kind g D s e) told ≡ Ok all → SomeRest g D all s (e and told)
-  at_event told later (Enter r) s hD few h = at_enter told later s.rules s.bytes s.events few r s.parts s.older s.text h
-  at_event told later (Byte b) s hD few h = at_byte told later s.rules s.bytes s.events few b s.parts s.older s.text hD h
-  at_event told later Leave s hD few h = at_leave told later s.rules s.bytes s.events few s.parts s.older s.text hD h
+  event_is_sound : (told : Told) → SoundAt told → (e : Event) (s : State) (x : Progress) → on_event g D s e ≡ x → length s.older ≤ D
+      → run g D x told ≡ Ok all → SomeRest g D all s (e and told)
+  event_is_sound told later e s (going s') st hD h =
+      let (d, n) = within g D s s' e hD st in before_event told s s' (later s' d n h) e st hD
+  event_is_sound told later e s (over v) st hD h = absurd (never_over g D s e all (st ∙ ap over h))
 
   sound : (told : Told) → SoundAt told
-  sound (finally f) s hD hE h = finish_is_sound f s.parts s.older s.text s.rules s.bytes s.events hE h
-  sound (e and told) s hD hE h =
-      let (few, h') = ask_on (ltb s.events 16000) TooManyEvents s (of_kind g D s e) told h in
-      at_event told (sound told) e s hD (ltb-true s.events 16000 few) h'
+  sound (finally f) s hD hE h = finish_is_sound f s hE h
+  sound (e and told) s hD hE h = event_is_sound told (sound told) e s (on_event g D s e) refl hD h
 
 -- the guide tells a tree, and the counts are the tree's
 abbrev pub TreeTold : Meaning → ℕ → List ℕ → Told → ℕ → ℕ → ℕ → Type 0
