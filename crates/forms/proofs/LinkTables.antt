@@ -71,11 +71,6 @@ first_event : (t : Tree) (g : Told) → (e : Event) × (k : Told) × (ahead (wal
 first_event (leaf b) g = (Byte b, _, refl, λ h. cc)
 first_event (node r ts) g = (Enter r, _, refl, λ h. cc)
 
-joined : (t : Tree) (ts : Children) (n s : ℕ) (rest last : List Record) → s ≡ first_link (n + nodes t) ts
-    → rest ≡ records_all (n + nodes t) ts ++ last → records_of n s t ++ rest ≡ records_all n (t then ts) ++ last
-joined t ts n s rest last e f =
-    rw (e, f) (sym (append_assoc (records_of n (first_link (n + nodes t) ts) t) (records_all (n + nodes t) ts) last))
-
 mutual
   read_back : (t : Tree) (n : ℕ) (r : Record) (rs : List Record) (opened : List ℕ) (g : Told)
       → reading n r opened (follow (n + 1) rs) ≡ ahead (walk t) g → Read t n (r ∷ rs) opened g
@@ -83,8 +78,8 @@ mutual
       let p = byte_read n opened (follow (n + 1) rs) r b g h in
       record { sibling = p.0; rest = rs; same = ap (λ x. x ∷ rs) p.1; goes = p.2 }
   read_back (node x ts) n r rs opened g h =
-      let p = enter_read n opened (follow (n + 1) rs) r x _ h in
-      let i = children_back ts (n + 1) p.0 p.1 rs opened g (p.3 ∙ ahead_append (walk_all ts) (Leave ∷ []) g) in
+      let p = enter_read n opened (follow (n + 1) rs) r x (ahead (walk_all ts) (Leave and g)) (rw ahead_append at h) in
+      let i = children_back ts (n + 1) p.0 p.1 rs opened g p.3 in
       let a : n + (1 + nodes_all ts) ≡ n + 1 + nodes_all ts = omega arith in
       record { sibling = p.1; rest = i.rest; same = cc (p.2, i.first, i.same); goes = rw a i.goes }
 
@@ -103,7 +98,7 @@ mutual
       record {
         rest = j.rest;
         first = p.here;
-        same = p.parts ∙ i.same ∙ joined t ts n i.sibling i.rest j.rest j.first j.same;
+        same = cc (p.parts, i.same, j.first, j.same, append_assoc (records_of n i.sibling t) (records_all (n + nodes t) ts) j.rest);
         goes = rw a j.goes;
       }
 

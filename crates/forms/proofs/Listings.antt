@@ -1,6 +1,7 @@
 -- A tree's own listing tells its walk, and a listing that tells the walk is the tree's own.
 use Rattle.std.proofs.Common.{◌≡◌, ℕ, ◌+◌, ◌*◌, ◌/◌, ◌%◌, ◌<◌, ◌≤◌, Bool, cond, eqb, leb, List, [], ◌∷◌, ◌++◌, length, Some, None, decimal, Option, sym, refl, ap, ◌∙◌, append_assoc, arith, length-append}
 use Rattle.std.proofs.ByRecursion.{All-append, All-weaker}
+use Rattle.std.proofs.lemmas.Grind.{flat_map-append}
 use Rattle.std.proofs.lemmas.Bool.{cond-true, cond_both, eqb-true, ne_eqb, le-leb}
 use Rattle.std.proofs.lemmas.Bool.Decides.{nat_tests as splits}
 use Rattle.std.specs.Int.{IsInRange}
@@ -70,7 +71,7 @@ lines_back at (unended (b ∷ l)) es h = cc (fault_tells es h)
 lines_back at (ended l ls) es h =
     let p = telling_back (line_event l) at _ es h in
     let i = lines_back (at + (length l + 1)) ls p.1 p.4 in
-    let k = line_back l p.0 p.3 in cc (ap lines_of p.2, i, k)
+    let k = line_back l p.0 p.3 in cc (ap lines_of p.2, i, k, append_assoc l (10 ∷ []) (unlines ls))
 
 short_enough : (b : Bool) (g : Told) (es : List Event) → cond b g (finally (fault ListingTooLong 0)) ≡ tells es End → g ≡ tells es End
 short_enough b g es h = grind (arith, fault_tells)
@@ -92,7 +93,7 @@ line_plain (Enter r) h = (omega arith, digits_plain (decimal r) (written_digits 
 line_plain (Byte b) h = (omega arith, (hex_plain (b / 16) (omega arith), (hex_plain (b % 16) (omega arith), tt)))
 line_plain Leave h = omega arith
 
-line_ended : (l bs : List ℕ) → AllByRecursion Plain l → lines (l ++ (10 ∷ bs)) ≡ ended l (lines bs)
+line_ended : (l bs : List ℕ) → AllByRecursion Plain l → lines ((l ++ (10 ∷ [])) ++ bs) ≡ ended l (lines bs)
 line_ended [] bs h = refl
 line_ended (b ∷ l) bs h =
     let k = h.0 in
@@ -119,35 +120,23 @@ mutual
   walks_in_range no_more h = tt
   walks_in_range (t then ts) h = All-append EventInRange (walk t) (walk_all ts) (walk_in_range t h.0) (walks_in_range ts h.1)
 
-lines_append : (xs ys : List Event) → lines_of (xs ++ ys) ≡ lines_of xs ++ lines_of ys
-lines_append [] ys = refl
-lines_append (x ∷ xs) ys = let h = lines_append xs ys in rw (h, append_assoc)
-
-lines_length : (xs ys : List Event) → length (lines_of (xs ++ ys)) ≡ length (lines_of xs) + length (lines_of ys)
-lines_length xs ys = ap length (lines_append xs ys) ∙ length-append (lines_of xs) (lines_of ys)
-
 -- eight bytes a node suffice
 mutual
   walk_short : (t : Tree) → ValuesInRange t → length (lines_of (walk t)) ≤ 8 * nodes t
   walk_short (leaf b) h = omega arith
   walk_short (node r ts) h =
-      let i = walks_short ts h.1 in
-      let few = (written_digits r h.0).few in
-      let l = length-append (line_of (Enter r)) (10 ∷ lines_of (walk_all ts ++ (Leave ∷ []))) in
-      let k = lines_length (walk_all ts) (Leave ∷ []) in omega arith
+      simp (flat_map-append, length-append) (omega (arith, walks_short ts h.1, (written_digits r h.0).few))
 
   walks_short : (ts : Children) → AllValuesInRange ts → length (lines_of (walk_all ts)) ≤ 8 * nodes_all ts
   walks_short no_more h = omega arith
-  walks_short (t then ts) h =
-      let i = walk_short t h.0 in
-      let j = walks_short ts h.1 in
-      let k = lines_length (walk t) (walk_all ts) in omega arith
+  walks_short (t then ts) h = simp (flat_map-append, length-append) (omega (arith, walk_short t h.0, walks_short ts h.1))
 
 lines_bytes : (es : List Event) → AllByRecursion EventInRange es → AllByRecursion (λ b. b < 256) (lines_of es)
 lines_bytes [] h = tt
 lines_bytes (e ∷ es) h =
-    All-append (λ b. b < 256) (line_of e) (10 ∷ lines_of es)
-    (All-weaker Plain (λ b. b < 256) (λ b k. k.1) (line_of e) (line_plain e h.0)) (omega arith, lines_bytes es h.1)
+    All-append (λ b. b < 256) (line_of e ++ (10 ∷ [])) (lines_of es)
+    (All-append (λ b. b < 256) (line_of e) (10 ∷ []) (All-weaker Plain (λ b. b < 256) (λ b k. k.1) (line_of e) (line_plain e h.0)) (omega arith))
+    (lines_bytes es h.1)
 
 pub listing_as_written : ListingAsWritten
 listing_as_written t w =

@@ -2,7 +2,6 @@
 use Rattle.std.proofs.Common.{◌≡◌, ℕ, ◌+◌, ◌↔◌, List, [], ◌∷◌, ◌++◌, length, Err, Option, Result, sym, refl, ap, ◌∙◌, append_assoc, arith, length-append}
 use Rattle.std.proofs.lemmas.Bool.Decides.{nat_tests}
 use Rattle.guide.specs.declared.Event.{Event}
-use Rattle.guide.specs.declared.Event.TheVariants.{Enter, Byte, Leave}
 use Rattle.guide.specs.declared.Fault.{Fault}
 use Rattle.guide.specs.Told.{Finish, Told, finally, ◌and◌, ahead, answer, behind}
 use Rattle.grammar.specs.Meaning.{Meaning}
@@ -10,7 +9,7 @@ use Rattle.tree.specs.declared.verdict.Reason.TheVariants.{GuideFault}
 use Rattle.tree.specs.declared.verdict.Refusal.{Refusal}
 use Rattle.tree.specs.Verdict.{Verdict, refusal, taken}
 use Rattle.tree.specs.Check.{State, Progress, going, over, begin, on_event, at_finish, step, run}
-use Rattle.tree.specs.Theorems.{bytes_in, RefusalsSayWhere}
+use Rattle.tree.specs.Theorems.{byte_of, bytes_in, RefusalsSayWhere}
 
 -- One answer.
 -- how many answers were taken: one for each event accepted, and the last
@@ -19,12 +18,6 @@ going_counts g D s s' a h = grind (arith, nat_tests)
 
 pub over_counts : (g : Meaning) (D : ℕ) (s : State) (v : Verdict) (a : Result (Option Event) Fault) → over v ≡ step g D s a → taken v ≡ s.events + 1
 over_counts g D s v a h = grind (arith, nat_tests)
-
--- the byte that an event tells
-abbrev byte_of : Event → List ℕ
-byte_of (Enter r) = []
-byte_of (Byte b) = b ∷ []
-byte_of Leave = []
 
 -- an accepted event counts one more, and its byte is used
 record Went (s s' : State) (e : Event) : Type 0 where
@@ -69,9 +62,6 @@ record Split (g : Meaning) (D : ℕ) (s : State) (told : Told) (r : Refusal) : T
   alike : (rest' : Told) → answer rest' ≡ answer rest → run g D (going s) (ahead before rest') ≡ Err r
   faulty : (f : Fault) → (r.reason ≡ GuideFault f) ↔ (answer rest ≡ Err f)
 
-bytes_in_cons : (x : Event) (xs : List Event) → bytes_in (x ∷ xs) ≡ byte_of x ++ bytes_in xs
-bytes_in_cons x xs = grind arith
-
 module _ (g : Meaning) (D : ℕ) (r : Refusal) where
   -- the next answer is refused
   stop_split : (s : State) (rest : Told) → step g D s (answer rest) ≡ over (Err r) → Split g D s rest r
@@ -95,8 +85,6 @@ module _ (g : Meaning) (D : ℕ) (r : Refusal) where
   event_split told later x s (going s') st h =
       let w = later s' h in
       let l = went g D s s' x st in
-      let cons = bytes_in_cons x w.before in
-      let c = ap length cons in
       let m = length-append (byte_of x) (bytes_in w.before) in
       record {
         before = x ∷ w.before;
@@ -104,7 +92,7 @@ module _ (g : Meaning) (D : ℕ) (r : Refusal) where
         unused = w.unused;
         begins = ap (λ k. x and k) w.begins;
         counted = omega arith;
-        used = cc (cons, append_assoc (byte_of x) (bytes_in w.before) w.unused, w.used, l.text_is);
+        used = cc (append_assoc (byte_of x) (bytes_in w.before) w.unused, w.used, l.text_is);
         used_counted = omega arith;
         alike = λ rest' same. cc (st, w.alike rest' same);
         faulty = w.faulty;

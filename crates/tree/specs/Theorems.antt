@@ -1,5 +1,6 @@
 -- What is proved of walks and of the check, in the words of parse trees.
 use Rattle.std.specs.Prelude.{◌≡◌, ℕ, ◌+◌, ◌*◌, ◌≤◌, ◌↔◌, List, [], ◌∷◌, ◌++◌, length, Err}
+use Rattle.std.specs.List.{flat_map}
 use Rattle.guide.specs.declared.Event.{Event}
 use Rattle.guide.specs.declared.Event.TheVariants.{Enter, Byte, Leave}
 use Rattle.guide.specs.declared.Fault.{Fault}
@@ -51,12 +52,15 @@ EveryParseTreeIsAccepted =
     (g : Meaning) (D : ℕ) (t : Tree) → ParseTree g t → depth t ≤ D → length (walk t) ≤ most_events
     → verdict g D (spells t) (tells (walk t) End) ≡ accepted (rules t) (length (spells t)) (2 * rules t + length (spells t) + 1)
 
+-- the byte that an event tells
+abbrev pub byte_of : Event → List ℕ
+byte_of (Enter r) = []
+byte_of (Byte b) = b ∷ []
+byte_of Leave = []
+
 -- the bytes among the events
 abbrev pub bytes_in : List Event → List ℕ
-bytes_in [] = []
-bytes_in (Enter r ∷ es) = bytes_in es
-bytes_in (Byte b ∷ es) = b ∷ bytes_in es
-bytes_in (Leave ∷ es) = bytes_in es
+bytes_in = flat_map byte_of
 
 -- A refusal for the reason `why` with the counts `events` and `bytes`: so many events came before the refused answer, and the bytes among
 -- them, so many, are the first of the text. Every guide that begins with these events and has the same next answer is refused alike.

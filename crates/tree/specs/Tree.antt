@@ -4,6 +4,7 @@ use Rattle.guide.specs.declared.Event.{Event}
 use Rattle.guide.specs.declared.Event.TheVariants.{Enter, Byte, Leave}
 
 -- a leaf is a byte; a rule node has the number of its rule, and its children from left to right
+-- (a list type of their own: the logic has no type that holds itself inside a List)
 infixr 60 ◌then◌
 mutual
   pub data Tree : Type 0 where
