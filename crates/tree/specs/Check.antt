@@ -33,6 +33,7 @@ pub record State : Type 0 where
   pub events : ℕ
 
 -- the check goes on, or it has its verdict
+-- (no Result: what ends a check may be an acceptance, which is no error)
 pub data Progress : Type 0 where
   going : State → Progress
   over : Verdict → Progress

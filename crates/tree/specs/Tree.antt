@@ -36,6 +36,7 @@ abbrev mutual
   spell_all (t then ts) = spells t ++ spell_all ts
 
 -- how many rule nodes the tree has
+-- (a recursion of its own, as each measure of a tree is: as a fold that takes four functions it is no plainer)
 abbrev mutual
   pub rules : Tree → ℕ
   rules (leaf b) = 0
