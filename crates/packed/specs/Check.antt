@@ -68,6 +68,11 @@ abbrev pub outcome : Option TableFault → Result Unit TableFault
 outcome None = Ok tt
 outcome (Some fault) = Err fault
 
+-- a grammar, or the fault that there is none for, without the grammar itself
+abbrev pub answered : {G : Type 0} → Result G TableFault → Result Unit TableFault
+answered (Ok g) = Ok tt
+answered (Err fault) = Err fault
+
 -- a refused table opens as the empty grammar
 abbrev pub opened_meaning : List ℕ → Meaning
 opened_meaning bs = cond (is_lawful bs) (packed_meaning bs) empty_meaning

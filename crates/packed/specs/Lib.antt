@@ -5,3 +5,4 @@ pub mod Bounds
 pub mod Encoding
 pub mod Laws
 pub mod HouseTable
+pub mod Base

@@ -1,13 +1,14 @@
 // A grammar in a packed table: the bytes that users bring.
 #![tactic(auto)]
 
-ghost use Rattle.std.specs.Prelude.{◌≡◌, ◌<◌, true, length, None, MatchOption};
+ghost use Rattle.std.specs.Prelude.{◌≡◌, ◌<◌, true, length, None, IfOk, MatchOption};
 ghost use Rattle.packed.specs.Format.{mark_in, part_in, packed_meaning};
-ghost use Rattle.packed.specs.Check.{table_fault, outcome, is_lawful, opened_meaning};
+ghost use Rattle.packed.specs.Check.{table_fault, outcome, answered, is_lawful, opened_meaning};
 ghost use Rattle.packed.specs.Bounds.{packed_bounded, RowOf};
 
 use grammar::{Grammar, Mark, Part};
 
+pub mod base;
 pub mod check;
 pub mod fault;
 pub mod laws;
@@ -48,6 +49,17 @@ impl<'a> Packed<'a> {
         } else {
             None
         }
+    }
+}
+
+impl<'a> TryFrom<&'a [u8]> for Packed<'a> {
+    type Error = TableFault;
+
+    ghost try_from_gives = { λ table opened. record { grammar : IfOk opened (λ packed. packed.table.now ≡ table.now); answer : answered opened ≡ outcome (table_fault table.now) } };
+
+    fn try_from(table: &'a [u8]) -> Result<Packed<'a>, TableFault> {
+        check(table)?;
+        Ok(Packed { table })
     }
 }
 
