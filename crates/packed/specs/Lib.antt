@@ -1,4 +1,4 @@
-pub mod Pieces
+pub mod Chunks
 pub mod Format
 pub mod Check
 pub mod Bounds
