@@ -9,3 +9,4 @@ pub mod BarredBounds
 pub mod BarredLaws
 pub mod Either
 pub mod EitherBounds
+pub mod Text

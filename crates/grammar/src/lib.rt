@@ -11,6 +11,7 @@ pub mod either;
 pub mod house;
 pub mod laws;
 pub mod spaced;
+mod text;
 
 // Whether blanks may stand between a rule's parts, where a layer allows them (loose), or may not (tight).
 #[derive(Clone, Copy, PartialEq, Eq)]

@@ -6,3 +6,4 @@ pub mod Encoding
 pub mod Laws
 pub mod HouseTable
 pub mod Base
+pub mod Text
