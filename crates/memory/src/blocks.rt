@@ -1,11 +1,12 @@
 // A memory of 512 blocks. A text lies in as many of them as it needs, wherever they are.
 ghost use Rattle.std.specs.Prelude.{◌≡◌, ℕ, ◌<◌, ◌≤◌, length, Some, None, slice_index_or};
 ghost use Rattle.std.proofs.Common.{arith};
-ghost use Rattle.std.specs.Option.{option_map};
-ghost use Rattle.memory.specs.Texts.{blocks_for, last_number, longest_text, no_texts, holding, without, needs, free};
+ghost use Rattle.std.specs.Option.{option_map, ok_or};
+ghost use Rattle.memory.specs.Numbered.{none_outside};
+ghost use Rattle.memory.specs.Texts.{is_number, ask, blocks_for, last_number, longest_text, no_texts, holding, without, needs, free};
 ghost use Rattle.memory.specs.Blocks.{all_blocks, texts_in, Noted, Owns, Rest};
 
-use crate::{BLOCK_BYTES, LONGEST_TEXT, Memory, blocks_for, is_number};
+use crate::{BLOCK_BYTES, Memory, Refusal, is_number};
 
 mod layout;
 
@@ -37,6 +38,16 @@ impl Blocks {
             owners: [0; BLOCKS],
             lengths: [None; LENGTHS],
         }
+    }
+
+    // The length of the text under a number, or why there is none.
+    fn held(&self, number: u16) -> Result<u16, Refusal>
+        ensures { result ≡ ask (is_number number) Refusal.NumberOutside (ok_or (option_map (λ t. length t) (texts_in self.now.blocks self.now.owners self.now.lengths number)) Refusal.NotHeld) }
+    {
+        if !is_number(number) {
+            return Err(Refusal::NumberOutside);
+        }
+        self.length_of(number).ok_or(Refusal::NotHeld)
     }
 
     // Copies a text into a buffer of its length.
@@ -76,6 +87,8 @@ impl Memory for Blocks {
 
     ghost bounds = { λ s. omega (arith, s.rest) };
 
+    ghost numbered = { λ s. none_outside s.blocks s.owners s.lengths s.sized s.unnumbered };
+
     fn length_of(&self, number: u16) -> Option<u16> {
         if !is_number(number) {
             return None;
@@ -87,43 +100,24 @@ impl Memory for Blocks {
         layout::count_unused(&self.owners)
     }
 
-    fn store(&mut self, number: u16, text: &[u8]) -> bool {
-        if !is_number(number) {
-            return false;
-        }
-        if self.length_of(number).is_some() {
-            return false;
-        }
-        if text.len() > LONGEST_TEXT || blocks_for(text.len()) > self.free_blocks() as usize {
-            return false;
-        }
+    fn store(&mut self, number: u16, text: &[u8]) -> Result<(), Refusal> {
+        self.may_store(number, text.len())?;
         self.insert(number as u8, text);
-        true
+        Ok(())
     }
 
-    fn strike(&mut self, number: u16) -> bool {
-        if !is_number(number) {
-            return false;
-        }
-        if self.length_of(number).is_none() {
-            return false;
-        }
+    fn strike(&mut self, number: u16) -> Result<(), Refusal> {
+        self.held(number)?;
         self.remove(number as u8);
-        true
+        Ok(())
     }
 
-    fn copy_out(&self, number: u16, buffer: &mut [u8]) -> bool {
-        if !is_number(number) {
-            return false;
-        }
-        let Some(length) = self.length_of(number) else {
-            return false;
-        };
-        let length = length as usize;
+    fn copy_out(&self, number: u16, buffer: &mut [u8]) -> Result<usize, Refusal> {
+        let length = usize::from(self.held(number)?);
         if buffer.len() < length {
-            return false;
+            return Err(Refusal::BufferTooShort);
         }
-        self.copy(number as u8, &mut buffer[0..length]);
-        true
+        self.copy(number as u8, &mut buffer[..length]);
+        Ok(length)
     }
 }
