@@ -105,7 +105,8 @@ pub was_full : (fs fs' : List Frame) (n n' : ℕ) (x : Frame) (r : Result Unit F
     → Pushed fs n x r fs' n' → (why ≡ TooDeep) × (length fs ≤ n)
 was_full fs fs' n n' x r why e h = grind arith
 
-module _ (g : Meaning) (D : ℕ) (s : State) (r a : ℕ) (ps : List Part) (e : Some (Symbol a) ≡ newest ps) (same : Some a ≡ left_of (g.rule r)) where
+module _ (g : Meaning) (D : ℕ) (s : State) (r a l : ℕ) (ps : List Part) (p : Part) (o : Option ℕ) (e : Some p ≡ newest ps) (symbol : p ≡ Symbol a)
+    (found : o ≡ Some l) (left : o ≡ left_of (g.rule r)) (same : l ≡ a) where
   pub enter_deep : D ≤ length s.older → no TooDeep s ≡ on_enter g D s r ps
   enter_deep h = grind (arith, nat_tests)
 

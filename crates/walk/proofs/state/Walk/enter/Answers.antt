@@ -16,11 +16,10 @@ returns-in_err-or-clause-takes g c =
     let m = g.B.Grammar.meaning w.grammar.now in
     let n = open_nodes m w in
     let full = was_full _ _ _ _ _ _ _ c.in_err-or.ensures c.push.ensures in
-    let awaited = rw c.in-Some-Symbol.field-0-is at c.in-Some-Symbol.ensures in
-    let same : Some c.in-Some-Symbol.symbol ≡ left_of (m.rule c.args.rule) =
-    ap Some (sym c.if-left-symbol.false) ∙ sym c.in_ok-left.ensures.ok_part ∙ c.left.ensures in
     let said : c.from_residual-in_err-or.result ≡ Err c.in_err-or.field-0.0 = search rules in
-    rw (said, full.0) (enter_deep m (length w.frames.now) (state_of m w) _ _ (parts_now m w) awaited same (omega arith))
+    rw (said, full.0)
+    (enter_deep m (length w.frames.now) (state_of m w) _ _ _ (parts_now m w) _ _ c.in-Some-Symbol.ensures c.in-Some-Symbol.field-0-is
+    c.in_ok-left.ensures.ok_part c.left.ensures c.if-left-symbol.false (omega arith))
 
 pub returns-clause-takes : goal.returns-clause-takes
 returns-clause-takes g c =
@@ -28,8 +27,6 @@ returns-clause-takes g c =
     let m = g.B.Grammar.meaning w.grammar.now in
     let n = open_nodes m w in
     let p = was_pushed _ _ _ _ _ _ _ c.in_ok-or.ensures c.push.ensures in
-    let awaited = rw c.in-Some-Symbol.field-0-is at c.in-Some-Symbol.ensures in
-    let same : Some c.in-Some-Symbol.symbol ≡ left_of (m.rule c.args.rule) =
-    ap Some (sym c.if-left-symbol.false) ∙ sym c.in_ok-left.ensures.ok_part ∙ c.left.ensures in
-    entered_state m w _ awaited c.args.rule _ _ c.advance.ensures p.1
-    ∙ enter_on m (length w.frames.now) (state_of m w) _ _ (parts_now m w) awaited same (omega arith)
+    entered_state m w _ c.in-Some-Symbol.ensures c.args.rule _ _ c.advance.ensures p.1
+    ∙ enter_on m (length w.frames.now) (state_of m w) _ _ _ (parts_now m w) _ _ c.in-Some-Symbol.ensures c.in-Some-Symbol.field-0-is
+    c.in_ok-left.ensures.ok_part c.left.ensures c.if-left-symbol.false (omega arith)
