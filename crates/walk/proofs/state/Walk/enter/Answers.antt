@@ -1,5 +1,4 @@
-use Rattle.std.proofs.Common.{◌≡◌, Some, Err, length, sym, ap, ◌∙◌, rules, arith}
-use Rattle.grammar.specs.Meaning.{left_of}
+use Rattle.std.proofs.Common.{◌≡◌, Err, length, ◌∙◌, rules, arith}
 use Rattle.walk.specs.Rows.{parts_now, state_of}
 use Rattle.walk.proofs.Opened.{was_pushed, was_full, enter_deep, enter_on}
 use Rattle.walk.proofs.Turns.{open_nodes, awaited_fits, entered_state}
