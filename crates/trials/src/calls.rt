@@ -32,23 +32,18 @@ fn random_number(random: &mut Random, taste: Taste) -> u16 {
         Taste::Small | Taste::Deep => 20,
         Taste::Long | Taste::Counted => 120,
     };
-    let number = if random.chance(5) {
+    if random.chance(5) {
         random.one_of(&[0, 121, 122, 257, 376, 65_535])
     } else {
-        random.between(1, most)
-    };
-    narrow(number)
+        narrow(random.between(1, most))
+    }
 }
 
 // The first number behind another, all round from 1 to 120, that is held; the other where none is.
 fn held_number(sheet: &Sheet, number: u16) -> u16 {
-    for i in 0..120u16 {
-        let candidate = number.wrapping_add(i) % 120 + 1;
-        if sheet.text(candidate).is_some() {
-            return candidate;
-        }
-    }
-    number
+    let mut behind = (0..120u16).map(|i| number.wrapping_add(i) % 120 + 1);
+    let held = behind.find(|candidate| sheet.text(*candidate).is_some());
+    held.unwrap_or(number)
 }
 
 // A call that is no load. Its guide has an event, so that it shows whether the call has read it.
@@ -66,10 +61,7 @@ pub(crate) fn bare_call(heap: Global, request: Request, buffer: usize) -> Result
 // The length of a buffer, about that of the text to be fetched.
 pub(crate) fn random_buffer(random: &mut Random, request: Request, sheet: &Sheet) -> usize {
     let held = match request {
-        Request::Fetch(number) => match sheet.text(number) {
-            Some(text) => text.len(),
-            None => 0,
-        },
+        Request::Fetch(number) => sheet.text(number).map_or(0, |text| text.len()),
         _ => 0,
     };
     let shorter = held.saturating_sub(1);
@@ -171,7 +163,7 @@ fn random_tree(
 fn make_text(heap: Global, random: &mut Random, moves: &[Move]) -> Result<Vec<u8>, AllocError> {
     let mut text = spell(heap, moves)?;
     match random.below(50) {
-        0 | 1 | 2 | 3 => {
+        0..=3 => {
             let new = random.byte();
             shake(random, &mut text, new)?
         }
@@ -200,7 +192,7 @@ fn random_frames(random: &mut Random, depth: usize) -> usize {
 fn make_listing(heap: Global, random: &mut Random, moves: &[Move]) -> Result<Vec<u8>, AllocError> {
     let mut listing = write_listing(heap, moves)?;
     match random.below(60) {
-        0 | 1 | 2 | 3 | 4 | 5 | 6 | 7 => {
+        0..=7 => {
             let new = random_byte(random);
             shake(random, &mut listing, new)?
         }

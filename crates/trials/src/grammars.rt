@@ -1,7 +1,7 @@
 // Random grammars, and their packed tables.
 use crate::random::Random;
 use second_checker::narrow;
-use second_checker::plain::{Piece, Plain};
+use second_checker::plain::{Piece, Plain, Rule};
 use std::alloc::{AllocError, Global};
 
 // What a random grammar is to be like: few short rules, rules of many parts, or as many symbols and rules as a table may have.
@@ -28,7 +28,7 @@ pub(crate) fn random_grammar(
     };
     let mut grammar = Plain {
         start: narrow(random.below(symbols)),
-        symbols,
+        symbols: narrow(symbols),
         rules: Vec::new(heap),
     };
     for left in 0..symbols {
@@ -56,7 +56,8 @@ fn add_rule(
     };
     let mut pieces = Vec::new(heap);
     for _ in 0..count {
-        pieces.push(random_piece(random, grammar.symbols, symbols_in_hundred))?;
+        let piece = random_piece(random, usize::from(grammar.symbols), symbols_in_hundred);
+        pieces.push(piece)?;
     }
     let loose = random.chance(50);
     grammar.add(heap, narrow(left), loose, pieces.as_slice())
@@ -97,30 +98,25 @@ pub(crate) fn counting_grammar(heap: Global) -> Result<Plain, AllocError> {
 // The packed table of a grammar without gaps.
 pub(crate) fn write_table(heap: Global, grammar: &Plain) -> Result<Vec<u8>, AllocError> {
     let mut table = Vec::new(heap);
-    table.extend_from_slice(&narrow(grammar.symbols).to_be_bytes())?;
+    table.extend_from_slice(&grammar.symbols.to_be_bytes())?;
     table.extend_from_slice(&narrow(grammar.rules.len()).to_be_bytes())?;
     table.extend_from_slice(&grammar.start.to_be_bytes())?;
     table.extend_from_slice(&[0, 0])?;
-    for number in 0..grammar.rules.len() {
-        if let Some(rule) = grammar.rule(narrow(number)) {
-            let mark = if rule.loose { 1 } else { 0 };
-            write_row(&mut table, rule.left, mark, rule.pieces.as_slice())?;
-        }
+    for rule in grammar.rules.iter().flatten() {
+        write_row(&mut table, rule)?;
     }
     Ok(table)
 }
 
-fn write_row(table: &mut Vec<u8>, left: u16, mark: u8, pieces: &[Piece]) -> Result<(), AllocError> {
-    let count = u8::try_from(pieces.len()).unwrap_or(u8::MAX);
-    table.extend_from_slice(&left.to_be_bytes())?;
-    table.extend_from_slice(&[mark, count])?;
-    for piece in pieces {
-        table.extend_from_slice(&slot_of(*piece))?;
+fn write_row(table: &mut Vec<u8>, rule: &Rule) -> Result<(), AllocError> {
+    let count = u8::try_from(rule.pieces.len()).unwrap_or(u8::MAX);
+    let mut slots = [[0; 4]; MOST_PARTS];
+    for (slot, piece) in slots.iter_mut().zip(rule.pieces.iter()) {
+        *slot = slot_of(*piece);
     }
-    for _ in pieces.len()..MOST_PARTS {
-        table.extend_from_slice(&[0; 4])?;
-    }
-    Ok(())
+    table.extend_from_slice(&rule.left.to_be_bytes())?;
+    table.extend_from_slice(&[u8::from(rule.loose), count])?;
+    table.extend_from_slice(slots.as_flattened())
 }
 
 fn slot_of(piece: Piece) -> [u8; 4] {

@@ -12,55 +12,50 @@ pub struct Link {
     pub sibling: u16,
 }
 
-// An open node, none at the top, and the newest of its children.
+// The link of a record that the next node is to be tied to.
 #[derive(Clone, Copy)]
-struct Level {
-    parent: Option<usize>,
-    newest: Option<usize>,
+enum Tie {
+    ChildOf(usize),
+    SiblingOf(usize),
 }
 
 // The bytes among the moves.
 pub(crate) fn spell(heap: Global, moves: &[Move]) -> Result<Vec<u8>, AllocError> {
-    let mut text = Vec::new(heap);
-    for each in moves {
-        if let Move::Byte(byte) = each {
-            text.push(*byte)?;
-        }
+    let bytes = moves.iter().filter_map(|each| match each {
+        Move::Byte(byte) => Some(*byte),
+        Move::Enter(_) | Move::Leave => None,
+    });
+    bytes.collect(heap)
+}
+
+// How many nodes are open behind a move, of those open before it.
+fn open_behind(open: usize, each: &Move) -> usize {
+    match each {
+        Move::Enter(_) => open.saturating_add(1),
+        Move::Byte(_) => open,
+        Move::Leave => open.saturating_sub(1),
     }
-    Ok(text)
 }
 
 // How many nodes are open at most.
 pub(crate) fn depth_of(moves: &[Move]) -> usize {
-    let mut open = 0usize;
-    let mut most = 0usize;
-    for each in moves {
-        match each {
-            Move::Enter(_) => open = open.saturating_add(1),
-            Move::Byte(_) => {}
-            Move::Leave => open = open.saturating_sub(1),
-        }
-        most = most.max(open);
-    }
-    most
+    let depths = moves.iter().scan(0, |open, each| {
+        *open = open_behind(*open, each);
+        Some(*open)
+    });
+    depths.max().unwrap_or(0)
 }
 
 // The record of the first node that is entered while as many nodes are open as a link table may have.
 pub(crate) fn deeper_record(moves: &[Move]) -> Option<usize> {
-    let mut open = 0usize;
-    let mut records = 0usize;
-    for each in moves {
-        match each {
-            Move::Enter(_) if open == 256 => return Some(records),
-            Move::Enter(_) => {
-                open = open.saturating_add(1);
-                records = records.saturating_add(1)
-            }
-            Move::Byte(_) => records = records.saturating_add(1),
-            Move::Leave => open = open.saturating_sub(1),
-        }
-    }
-    None
+    let mut open = 0;
+    let event = moves.iter().position(|each| {
+        let above = open;
+        open = open_behind(open, each);
+        above == 256 && matches!(each, Move::Enter(_))
+    })?;
+    let before = moves.iter().take(event);
+    Some(before.filter(|each| **each != Move::Leave).count())
 }
 
 pub(crate) fn write_listing(heap: Global, moves: &[Move]) -> Result<Vec<u8>, AllocError> {
@@ -80,29 +75,22 @@ pub(crate) fn write_listing(heap: Global, moves: &[Move]) -> Result<Vec<u8>, All
 pub(crate) fn links_of(heap: Global, moves: &[Move]) -> Result<Vec<Link>, AllocError> {
     let mut links = Vec::new(heap);
     let mut above = Vec::new(heap);
-    let mut level = Level {
-        parent: None,
-        newest: None,
-    };
+    let mut tie = None;
     for each in moves {
         let number = links.len();
         match each {
             Move::Enter(rule) => {
-                tie(&mut links, level, number);
+                tie_to(&mut links, tie, number);
                 links.push(record(1, *rule))?;
-                level.newest = Some(number);
-                above.push(level)?;
-                level = Level {
-                    parent: Some(number),
-                    newest: None,
-                }
+                above.push(Tie::SiblingOf(number))?;
+                tie = Some(Tie::ChildOf(number))
             }
             Move::Byte(byte) => {
-                tie(&mut links, level, number);
+                tie_to(&mut links, tie, number);
                 links.push(record(2, u16::from(*byte)))?;
-                level.newest = Some(number)
+                tie = Some(Tie::SiblingOf(number))
             }
-            Move::Leave => level = above.pop().unwrap_or(level),
+            Move::Leave => tie = above.pop().or(tie),
         }
     }
     Ok(links)
@@ -118,16 +106,21 @@ fn record(kind: u8, value: u16) -> Link {
     }
 }
 
-// Has the newest child of the level, or else its open node, point to the record with that number.
-fn tie(links: &mut Vec<Link>, level: Level, number: usize) {
-    if let Some(newest) = level.newest {
-        if let Some(link) = links.get_mut(newest) {
-            link.sibling = narrow(number);
+// Ties the record with that number.
+fn tie_to(links: &mut [Link], tie: Option<Tie>, number: usize) {
+    let number = narrow(number);
+    match tie {
+        Some(Tie::ChildOf(parent)) => {
+            if let Some(link) = links.get_mut(parent) {
+                link.child = number;
+            }
         }
-    } else if let Some(parent) = level.parent {
-        if let Some(link) = links.get_mut(parent) {
-            link.child = narrow(number);
+        Some(Tie::SiblingOf(newest)) => {
+            if let Some(link) = links.get_mut(newest) {
+                link.sibling = number;
+            }
         }
+        None => {}
     }
 }
 

@@ -1,6 +1,8 @@
 // What the product answers, in the form in which both checkers are compared.
+use crate::answers::{Answer, Told};
 use crate::scenes::{Call, Form, Layers, Scene};
-use cues::answers::{Answer, Reason, Refusal};
+use cues::answers;
+use cues::answers::{Reason, Refusal};
 use cues::requests::perform;
 use grammar::barred::Barred;
 use grammar::house::House;
@@ -11,9 +13,9 @@ use guide::listing::Listing;
 use guide::{Event, Finish, Guide};
 use memory::blocks::Blocks;
 use packed::Packed;
-use second_checker::answers::{Fault, No, Said, Told};
+use second_checker::answers::{Loaded, Said};
 use second_checker::plain::{Piece, Plain, Rule};
-use second_checker::{Move, narrow};
+use second_checker::{Move, narrow, numbers};
 use std::alloc::{AllocError, Global};
 use tree::verdict;
 use walk::state::Frame;
@@ -21,26 +23,22 @@ use walk::state::Frame;
 // The answer, what the guide says next, and whether the grammar answers every question as the plain one.
 #[derive(Clone, Copy)]
 pub struct Heard {
-    pub said: Said,
+    pub answer: Answer,
     pub told: Told,
     pub same_grammar: bool,
 }
 
 // Why the product refuses a table: the number and the rule.
 pub(crate) fn table_refusal(table: &[u8]) -> Option<(u8, usize)> {
-    match Packed::open(table) {
-        (_, Ok(())) => None,
-        (_, Err(fault)) => Some((fault.number(), usize::from(fault.rule()))),
-    }
+    let (_, opened) = Packed::open(table);
+    let fault = opened.err()?;
+    Some((fault.number(), usize::from(fault.rule())))
 }
 
 // By which number the product refuses a bar.
 pub(crate) fn bar_refusal(number: u16) -> Option<u8> {
     let mut barred = Barred::new(House);
-    match barred.bar(number) {
-        Ok(()) => None,
-        Err(refusal) => Some(refusal.number()),
-    }
+    barred.bar(number).err().map(|refusal| refusal.number())
 }
 
 // Makes the call under the scene's grammar.
@@ -107,12 +105,12 @@ fn with<B: Grammar>(
 ) -> Result<Heard, AllocError> {
     let same_grammar = answers_alike(grammar, plain);
     let bytes = call.guide.as_slice();
-    let (said, told) = match call.form {
+    let (answer, told) = match call.form {
         Form::Listing => guided(heap, memory, call, buffer, grammar, Listing::new(bytes))?,
         Form::Links => guided(heap, memory, call, buffer, grammar, LinkTable::new(bytes))?,
     };
     Ok(Heard {
-        said,
+        answer,
         told,
         same_grammar,
     })
@@ -125,7 +123,7 @@ fn guided<B: Grammar, G: Guide + Drop>(
     buffer: &mut [u8],
     grammar: &B,
     guide: G,
-) -> Result<(Said, Told), AllocError> {
+) -> Result<(Answer, Told), AllocError> {
     let mut guide = guide;
     let mut frames = vec![in heap; Frame::BLANK; call.frames]?;
     let text = call.text.as_slice();
@@ -138,32 +136,32 @@ fn guided<B: Grammar, G: Guide + Drop>(
         &mut frames,
         buffer,
     );
-    Ok((said_by(answer), told_by(guide.next())))
+    Ok((Answer(said_by(answer)), Told(told_by(guide.next()))))
 }
 
-pub(crate) fn said_by(answer: Answer) -> Said {
+fn said_by(answer: answers::Answer) -> Result<Said, numbers::Refusal> {
     match answer {
-        Answer::Loaded(accepted) => Said::Loaded {
+        answers::Answer::Loaded(accepted) => Ok(Said::Loaded(Loaded {
             rules: accepted.rules as usize,
             bytes: accepted.bytes,
             steps: accepted.steps as usize,
-        },
-        Answer::Cleared(number) => Said::Cleared(number),
-        Answer::Fetched(length) => Said::Fetched(length),
-        Answer::Free(blocks) => Said::Free(usize::from(blocks)),
-        Answer::Refused(refusal) => Said::Refused(no_by(refusal)),
+        })),
+        answers::Answer::Cleared(number) => Ok(Said::Cleared(number)),
+        answers::Answer::Fetched(length) => Ok(Said::Fetched(length)),
+        answers::Answer::Free(blocks) => Ok(Said::Free(usize::from(blocks))),
+        answers::Answer::Refused(refusal) => Err(refusal_by(refusal)),
     }
 }
 
-fn no_by(refusal: Refusal) -> No {
+fn refusal_by(refusal: Refusal) -> numbers::Refusal {
     let fault = match refusal.reason {
-        Reason::Check(verdict::Reason::GuideFault { defect, place }) => Some(Fault {
+        Reason::Check(verdict::Reason::GuideFault { defect, place }) => Some(numbers::Fault {
             number: defect.number(),
             place,
         }),
         _ => None,
     };
-    No {
+    numbers::Refusal {
         number: refusal.reason.number(),
         events: refusal.events as usize,
         bytes: refusal.bytes,
@@ -171,39 +169,36 @@ fn no_by(refusal: Refusal) -> No {
     }
 }
 
-fn told_by(answer: guide::Answer) -> Told {
+fn told_by(answer: guide::Answer) -> Result<Option<Move>, numbers::Fault> {
     match answer {
-        guide::Answer::Next(Event::Enter(rule)) => Told::Event(Move::Enter(rule)),
-        guide::Answer::Next(Event::Byte(byte)) => Told::Event(Move::Byte(byte)),
-        guide::Answer::Next(Event::Leave) => Told::Event(Move::Leave),
-        guide::Answer::Done(Finish::End) => Told::End,
-        guide::Answer::Done(Finish::Fault { defect, place }) => Told::Broken(Fault {
+        guide::Answer::Next(event) => Ok(Some(move_by(event))),
+        guide::Answer::Done(Finish::End) => Ok(None),
+        guide::Answer::Done(Finish::Fault { defect, place }) => Err(numbers::Fault {
             number: defect.number(),
             place,
         }),
     }
 }
 
+fn move_by(event: Event) -> Move {
+    match event {
+        Event::Enter(rule) => Move::Enter(rule),
+        Event::Byte(byte) => Move::Byte(byte),
+        Event::Leave => Move::Leave,
+    }
+}
+
 // Whether the grammar answers each of its questions as the plain one does, past the last rule too.
 fn answers_alike<B: Grammar>(grammar: &B, plain: &Plain) -> bool {
     let count = plain.rules.len();
-    if grammar.start() != plain.start
-        || usize::from(grammar.symbols()) != plain.symbols
-        || usize::from(grammar.rules()) != count
-    {
-        return false;
-    }
-    for number in 0..count.saturating_add(3) {
-        let number = narrow(number);
-        let alike = match plain.rule(number) {
+    let mut numbers = (0..count.saturating_add(3)).map(narrow);
+    grammar.start() == plain.start
+        && grammar.symbols() == plain.symbols
+        && usize::from(grammar.rules()) == count
+        && numbers.all(|number| match plain.rule(number) {
             Some(rule) => has_rule(grammar, number, rule),
             None => has_gap(grammar, number),
-        };
-        if !alike {
-            return false;
-        }
-    }
-    true
+        })
 }
 
 fn has_gap<B: Grammar>(grammar: &B, number: u16) -> bool {
@@ -218,20 +213,15 @@ fn has_rule<B: Grammar>(grammar: &B, number: u16, rule: &Rule) -> bool {
     let Some(count) = grammar.parts(number) else {
         return false;
     };
-    if grammar.left(number) != Some(rule.left)
-        || grammar.mark(number) != Some(mark)
-        || usize::from(count) != rule.pieces.len()
-    {
-        return false;
-    }
-    for (k, piece) in rule.pieces.iter().enumerate() {
-        let k = u8::try_from(k).unwrap_or(u8::MAX);
-        match grammar.part(number, k) {
-            Some(part) if is_piece(part, *piece) => {}
-            _ => return false,
-        }
-    }
-    grammar.part(number, count).is_none()
+    let mut pieces = (0..count).zip(rule.pieces.iter());
+    grammar.left(number) == Some(rule.left)
+        && grammar.mark(number) == Some(mark)
+        && usize::from(count) == rule.pieces.len()
+        && pieces.all(|(k, piece)| match grammar.part(number, k) {
+            Some(part) => is_piece(part, *piece),
+            None => false,
+        })
+        && grammar.part(number, count).is_none()
 }
 
 // The order of the three exceptions does not matter, nor how often one is told.
@@ -242,12 +232,8 @@ fn is_piece(part: Part, piece: Piece) -> bool {
         (Part::Except(a, b, c), Piece::Except(x, y, z)) => {
             let these = [a, b, c];
             let those = [x, y, z];
-            these.contains(&x)
-                && these.contains(&y)
-                && these.contains(&z)
-                && those.contains(&a)
-                && those.contains(&b)
-                && those.contains(&c)
+            these.iter().all(|byte| those.contains(byte))
+                && those.iter().all(|byte| these.contains(byte))
         }
         _ => false,
     }
