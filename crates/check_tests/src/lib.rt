@@ -11,34 +11,25 @@ mod other_forms;
 mod tables;
 
 #[cfg(test)]
+use cues::answers::Refusal;
+#[cfg(test)]
+use report::line::Shown;
+#[cfg(test)]
 use std::alloc::{AllocError, Global};
 #[cfg(test)]
-use tree::verdict::{Reason, Verdict};
+use tree::verdict::Verdict;
 
 // A verdict in the words of `cueline`'s line.
 #[cfg(test)]
 fn verdict_line(heap: Global, verdict: Verdict) -> Result<String, AllocError> {
     match verdict {
-        Ok(accepted) => {
-            let rules = accepted.rules;
-            let bytes = accepted.bytes;
-            let steps = accepted.steps;
-            format!(in heap; "ok rules={rules} bytes={bytes} steps={steps}\n")
-        }
-        Err(refusal) => {
-            let number = refusal.reason.number();
-            let events = refusal.events;
-            let bytes = refusal.bytes;
-            match refusal.reason {
-                Reason::GuideFault { defect, place } => {
-                    let fault = defect.number();
-                    format!(in heap;
-                        "no {number} event={events} at={bytes} guide={fault} place={place}\n"
-                    )
-                }
-                _ => format!(in heap; "no {number} event={events} at={bytes}\n"),
-            }
-        }
+        Ok(accepted) => format!(in heap;
+            "ok rules={} bytes={} steps={}\n",
+            accepted.rules,
+            accepted.bytes,
+            accepted.steps
+        ),
+        Err(refusal) => format!(in heap; "{}\n", Shown(Refusal::Check(refusal))),
     }
 }
 
@@ -48,7 +39,7 @@ mod tests {
     use super::verdict_line;
     use grammar::house::House;
     use guide::listing::Listing;
-    use guide::{Answer, Event, Guide};
+    use guide::{Event, Guide};
     use report::answer;
     use std::alloc::Global;
     use std::process::Abort;
@@ -274,6 +265,6 @@ mod tests {
         let mut guide = Listing::new(SEVEN_AT_FIVE);
         let mut frames = [Frame::BLANK; 3];
         assert!(rt; check_guide(&House, &mut guide, b"7@6", &mut frames).is_err());
-        assert!(rt; guide.next() == Answer::Next(Event::Leave));
+        assert!(rt; guide.next() == Ok(Some(Event::Leave)));
     }
 }

@@ -6,7 +6,7 @@ use tree::verdict;
 use tree::verdict::Accepted;
 
 // Why a call is refused: the memory's own no, or that of the check of a guide.
-#[derive(Clone, Copy)]
+#[derive(Clone, Copy, PartialEq, Eq)]
 pub enum Refusal {
     Memory(memory::Refusal),
     Check(verdict::Refusal),
@@ -65,7 +65,7 @@ impl From<verdict::Refusal> for Refusal {
 }
 
 // What a request is answered: an accepted load's counts, the number that was cleared, the length that was fetched, or the free blocks.
-#[derive(Clone, Copy)]
+#[derive(Clone, Copy, PartialEq, Eq)]
 pub enum Answer {
     Loaded(Accepted),
     Cleared(u16),
