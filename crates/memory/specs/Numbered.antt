@@ -7,7 +7,7 @@ use Rattle.std.proofs.lemmas.Bool.Decides.{nat_tests}
 use Rattle.memory.specs.Texts.{is_number}
 use Rattle.memory.specs.Blocks.{gathered, texts_in}
 
-module _ (blocks : List (List ℕ)) (owners : List ℕ) (lengths : List (Option ℕ)) (sized : length lengths ≡ 121) (unnumbered : get_or lengths 0 None ≡ None) where
+module _ (blocks : List (List ℕ)) (owners : List (Option ℕ)) (lengths : List (Option ℕ)) (sized : length lengths ≡ 121) (unnumbered : get_or lengths 0 None ≡ None) where
   no_length : (n : ℕ) → is_number n ≡ false → get_or lengths n None ≡ None
   no_length n e =
       elim (cases_lt 120 n) [

@@ -7,6 +7,7 @@ ghost use Rattle.memory.specs.Texts.{Texts, blocks_for, holding, without, needs,
 ghost use Rattle.memory.specs.Laws.{NeedsOf0_64And65Bytes, EmptyTextIsNotNone, EmptyMemoryIsAllFree, StoredTextTakesItsBlocks, StruckTextGivesItsBlocksBack, SameTextsSameRoom, DoneWherePossible};
 
 pub mod blocks;
+mod number;
 
 // Texts are held under the numbers from 1 to this.
 pub const LAST_NUMBER: u16 = 120;
