@@ -22,7 +22,7 @@ const BLOCK_BYTES: usize = 64;
 pub fn is_number(number: u16) -> bool
     ensures { result ≡ is_number number }
 {
-    0 < number && number <= LAST_NUMBER
+    (1..=LAST_NUMBER).contains(&number)
 }
 
 // How many blocks a text of so many bytes needs.
