@@ -13,7 +13,7 @@ use memory::Memory;
 use walk::state::Frame;
 
 // A call without what is lent to it.
-#[derive(Clone, Copy)]
+#[derive(Clone, Copy, PartialEq, Eq)]
 pub enum Request {
     Load(u16),
     Clear(u16),
