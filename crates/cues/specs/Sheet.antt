@@ -70,7 +70,8 @@ told_after blocks s (clear n) told = told
 told_after blocks s (fetch n b) told = told
 told_after blocks s free told = told
 
--- what a call finds, and what it leaves: the texts held, the bytes of the buffer, and what the guide tells
+-- What a call finds, and what it leaves: the texts held, the bytes of the buffer, and what the guide tells. How many blocks there are no
+-- call changes, and the memory's own definitions take that number beside the texts.
 pub record State : Type 0 where
   pub held : Texts
   pub buffer : List ℕ

@@ -14,6 +14,7 @@ use walk::state::Frame;
 
 // Holds the text under the number if the guide tells the walk of a parse tree of the grammar that spells it. What the frames hold
 // afterwards is left open.
+// What it reads comes one by one, as `check` takes it: a struct of the four would only be taken apart again.
 pub fn load<M: Memory, B: Grammar, G: Guide>(
     memory: &mut M,
     number: u16,

@@ -12,7 +12,7 @@ use guide::Guide;
 use memory::Memory;
 use walk::state::Frame;
 
-// A call without what is lent to it.
+// A call without what is lent to it: scripts hold requests before anything is lent, and a clear has no guide whose type it could name.
 #[derive(Clone, Copy, PartialEq, Eq)]
 pub enum Request {
     Load(u16),
@@ -31,7 +31,7 @@ pub struct Lent<'a, B, G> {
     pub buffer: &'a mut [u8],
 }
 
-// Performs it by the cue sheet.
+// Performs a request by the cue sheet, from which the law follows.
 fn answer_to<M: Memory, B: Grammar, G: Guide>(
     memory: &mut M,
     request: Request,
