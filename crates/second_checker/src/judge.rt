@@ -45,6 +45,7 @@ struct Node {
 }
 
 // The nodes that are open, the newest last, those that were left, the leaves, and the first leave for which no node was open.
+// No node is held in its parent: a guide can open more than 16,000, and recursion over as many levels may exhaust the stack.
 #[derive(Drop)]
 struct Tree {
     open: Vec<Node>,

@@ -2,9 +2,10 @@
 use crate::damage::{bend, pad, random_byte, random_move, shake};
 use crate::moves::{deeper_record, depth_of, links_of, spell, write_link_table, write_listing};
 use crate::random::Random;
-use crate::scenes::{Call, Form, Taste};
+use crate::scenes::{Call, Taste};
 use crate::trees::{Budget, grow, grow_exactly};
 use cues::requests::Request;
+use guide::written::Form;
 use second_checker::plain::Plain;
 use second_checker::sheet::Sheet;
 use second_checker::{Move, narrow};

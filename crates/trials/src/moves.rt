@@ -2,7 +2,7 @@
 use second_checker::{Move, narrow};
 use std::alloc::{AllocError, Global};
 
-// A record of a link table.
+// A record of a link table. Its kind is a bare number, so that damage can turn it into none.
 #[derive(Clone, Copy)]
 pub struct Link {
     pub kind: u8,

@@ -1,16 +1,15 @@
 // What the product answers, in the form in which both checkers are compared.
 use crate::answers::{Answer, Told};
-use crate::scenes::{Call, Form, Layers, Scene};
+use crate::scenes::{Call, Layers, Scene};
 use cues::answers;
-use cues::answers::{Reason, Refusal};
-use cues::requests::perform;
+use cues::answers::Refusal;
+use cues::requests::{Lent, perform};
 use grammar::barred::Barred;
 use grammar::house::House;
 use grammar::spaced::Spaced;
 use grammar::{Grammar, Mark, Part};
-use guide::link_table::LinkTable;
-use guide::listing::Listing;
-use guide::{Event, Finish, Guide};
+use guide::written::Written;
+use guide::{Event, Fault, Guide};
 use memory::blocks::Blocks;
 use packed::Packed;
 use second_checker::answers::{Loaded, Said};
@@ -18,6 +17,7 @@ use second_checker::plain::{Piece, Plain, Rule};
 use second_checker::{Move, narrow, numbers};
 use std::alloc::{AllocError, Global};
 use tree::verdict;
+use tree::verdict::Reason;
 use walk::state::Frame;
 
 // The answer, what the guide says next, and whether the grammar answers every question as the plain one.
@@ -103,44 +103,24 @@ fn with<B: Grammar>(
     buffer: &mut [u8],
     grammar: &B,
 ) -> Result<Heard, AllocError> {
-    let same_grammar = answers_alike(grammar, plain);
-    let bytes = call.guide.as_slice();
-    let (answer, told) = match call.form {
-        Form::Listing => guided(heap, memory, call, buffer, grammar, Listing::new(bytes))?,
-        Form::Links => guided(heap, memory, call, buffer, grammar, LinkTable::new(bytes))?,
+    let mut frames = vec![in heap; Frame::BLANK; call.frames]?;
+    let mut lent = Lent {
+        text: call.text.as_slice(),
+        grammar,
+        guide: &mut Written::new(call.form, call.guide.as_slice()),
+        frames: &mut frames,
+        buffer,
     };
+    let answer = perform(memory, call.request, &mut lent);
     Ok(Heard {
-        answer,
-        told,
-        same_grammar,
+        answer: Answer(said_by(answer)),
+        told: Told(told_by(lent.guide.next())),
+        same_grammar: answers_alike(grammar, plain),
     })
 }
 
-fn guided<B: Grammar, G: Guide + Drop>(
-    heap: Global,
-    memory: &mut Blocks,
-    call: &Call,
-    buffer: &mut [u8],
-    grammar: &B,
-    guide: G,
-) -> Result<(Answer, Told), AllocError> {
-    let mut guide = guide;
-    let mut frames = vec![in heap; Frame::BLANK; call.frames]?;
-    let text = call.text.as_slice();
-    let answer = perform(
-        memory,
-        call.request,
-        text,
-        grammar,
-        &mut guide,
-        &mut frames,
-        buffer,
-    );
-    Ok((Answer(said_by(answer)), Told(told_by(guide.next()))))
-}
-
-fn said_by(answer: answers::Answer) -> Result<Said, numbers::Refusal> {
-    match answer {
+fn said_by(answer: Result<answers::Answer, Refusal>) -> Result<Said, numbers::Refusal> {
+    match answer.map_err(refusal_by)? {
         answers::Answer::Loaded(accepted) => Ok(Said::Loaded(Loaded {
             rules: accepted.rules as usize,
             bytes: accepted.bytes,
@@ -149,34 +129,35 @@ fn said_by(answer: answers::Answer) -> Result<Said, numbers::Refusal> {
         answers::Answer::Cleared(number) => Ok(Said::Cleared(number)),
         answers::Answer::Fetched(length) => Ok(Said::Fetched(length)),
         answers::Answer::Free(blocks) => Ok(Said::Free(usize::from(blocks))),
-        answers::Answer::Refused(refusal) => Err(refusal_by(refusal)),
     }
 }
 
 fn refusal_by(refusal: Refusal) -> numbers::Refusal {
-    let fault = match refusal.reason {
-        Reason::Check(verdict::Reason::GuideFault { defect, place }) => Some(numbers::Fault {
-            number: defect.number(),
-            place,
-        }),
+    let fault = match refusal {
+        Refusal::Check(
+            verdict::Refusal {
+                reason: Reason::GuideFault(fault),
+                ..
+            },
+        ) => Some(fault_by(fault)),
         _ => None,
     };
     numbers::Refusal {
-        number: refusal.reason.number(),
-        events: refusal.events as usize,
-        bytes: refusal.bytes,
+        number: refusal.number(),
+        events: refusal.events() as usize,
+        bytes: refusal.bytes(),
         fault,
     }
 }
 
-fn told_by(answer: guide::Answer) -> Result<Option<Move>, numbers::Fault> {
-    match answer {
-        guide::Answer::Next(event) => Ok(Some(move_by(event))),
-        guide::Answer::Done(Finish::End) => Ok(None),
-        guide::Answer::Done(Finish::Fault { defect, place }) => Err(numbers::Fault {
-            number: defect.number(),
-            place,
-        }),
+fn told_by(told: Result<Option<Event>, Fault>) -> Result<Option<Move>, numbers::Fault> {
+    told.map(|event| event.map(move_by)).map_err(fault_by)
+}
+
+fn fault_by(fault: Fault) -> numbers::Fault {
+    numbers::Fault {
+        number: fault.defect.number(),
+        place: fault.place,
     }
 }
 

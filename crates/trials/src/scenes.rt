@@ -5,6 +5,7 @@ use crate::product;
 use crate::random::Random;
 use crate::tally::Tally;
 use cues::requests::Request;
+use guide::written::Form;
 use second_checker::failure::answered;
 use second_checker::narrow;
 use second_checker::plain::{Plain, house, spaced};
@@ -29,12 +30,6 @@ pub enum Layers {
     BlanksOverBars,
     BarsOverBlanks,
     BlanksTwice,
-}
-
-#[derive(Clone, Copy)]
-pub enum Form {
-    Listing,
-    Links,
 }
 
 // A grammar twice: as the product is handed it, with the house grammar where there is no table, and as plain data.
