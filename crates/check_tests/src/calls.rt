@@ -11,12 +11,7 @@ use std::process::Abort;
 use std::test::Fail;
 use walk::state::Frame;
 
-fn load(
-    memory: &mut Blocks,
-    number: u16,
-    text: &[u8],
-    listing: &[u8],
-) -> Result<Answer, Refusal> {
+fn load(memory: &mut Blocks, number: u16, text: &[u8], listing: &[u8]) -> Result<Answer, Refusal> {
     let mut lent = Lent {
         text,
         grammar: &House,

@@ -13,21 +13,32 @@ mod tables;
 #[cfg(test)]
 use cues::answers::Refusal;
 #[cfg(test)]
+use grammar::Grammar;
+#[cfg(test)]
+use guide::Guide;
+#[cfg(test)]
 use report::line::Shown;
 #[cfg(test)]
 use std::alloc::{AllocError, Global};
 #[cfg(test)]
-use tree::verdict::Verdict;
-
-// A verdict in the words of `cueline`'s line.
+use walk::check;
 #[cfg(test)]
-fn verdict_line(heap: Global, verdict: Verdict) -> Result<String, AllocError> {
-    match verdict {
+use walk::state::Frame;
+
+// The verdict on a guide in the words of `cueline`'s line, with so many frames lent.
+#[cfg(test)]
+fn verdict_line<B: Grammar, G: Guide>(
+    heap: Global,
+    grammar: &B,
+    guide: &mut G,
+    text: &[u8],
+    frames: usize,
+) -> Result<String, AllocError> {
+    let mut frames = vec![in heap; Frame::BLANK; frames]?;
+    match check(grammar, guide, text, &mut frames) {
         Ok(accepted) => format!(in heap;
             "ok rules={} bytes={} steps={}\n",
-            accepted.rules,
-            accepted.bytes,
-            accepted.steps
+            accepted.rules, accepted.bytes, accepted.steps
         ),
         Err(refusal) => format!(in heap; "{}\n", Shown(Refusal::Check(refusal))),
     }
@@ -59,9 +70,7 @@ mod tests {
         frames: usize,
         expected: &str,
     ) -> Result<(), Fail> {
-        let mut frames = vec![in heap; Frame::BLANK; frames]?;
-        let mut guide = Listing::new(listing);
-        let line = verdict_line(heap, check_guide(&House, &mut guide, text, &mut frames))?;
+        let line = verdict_line(heap, &House, &mut Listing::new(listing), text, frames)?;
         assert_eq!(rt; line.as_str(), expected);
         Ok(())
     }

@@ -13,8 +13,6 @@ use packed::Packed;
 use std::alloc::{AllocError, Global};
 use std::process::Abort;
 use std::test::Fail;
-use walk::check as check_guide;
-use walk::state::Frame;
 
 const SEVEN_AT_FIVE: &[u8] = b"(0\n(2\n(3\n=37\n)\n=40\n(3\n=35\n)\n)\n)\n";
 
@@ -48,8 +46,7 @@ fn expect<B: Grammar, G: Guide>(
     text: &[u8],
     expected: &str,
 ) -> Result<(), Fail> {
-    let mut frames = [Frame::BLANK; 1_024];
-    let line = verdict_line(heap, check_guide(grammar, guide, text, &mut frames))?;
+    let line = verdict_line(heap, grammar, guide, text, 1_024)?;
     assert_eq!(rt; line.as_str(), expected);
     Ok(())
 }
