@@ -31,11 +31,7 @@ fn seven_at_five(heap: Global, sibling: u8) -> Result<Vec<u8>, AllocError> {
         [1, 0, 0, 3, 0, 6, 0, 0],
         [2, 0, 0, b'5', 0, 0, 0, 0],
     ];
-    let mut table = Vec::new(heap);
-    for record in &records {
-        table.extend_from_slice(record)?;
-    }
-    Ok(table)
+    records.as_flattened().to_vec(heap)
 }
 
 fn expect<B: Grammar, G: Guide>(

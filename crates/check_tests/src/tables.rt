@@ -13,19 +13,13 @@ const DIGIT: [u8; 4] = [2, b'0', b'9', 0];
 
 // The row of a rule: its left symbol, its mark and its parts, and zeros up to 64 bytes.
 fn add_rule(table: &mut Vec<u8>, left: u8, mark: u8, parts: &[[u8; 4]]) -> Result<(), AllocError> {
-    table.extend_from_slice(&[0, left, mark])?;
-    let mut count: u8 = 0;
-    for _ in parts {
-        count = count.saturating_add(1);
+    let count = u8::try_from(parts.len()).unwrap_or(u8::MAX);
+    let mut slots = [[0; 4]; 15];
+    for (slot, part) in slots.iter_mut().zip(parts) {
+        *slot = *part;
     }
-    table.push(count)?;
-    for part in parts {
-        table.extend_from_slice(part)?;
-    }
-    for _ in parts.len()..15 {
-        table.extend_from_slice(&[0; 4])?;
-    }
-    Ok(())
+    table.extend_from_slice(&[0, left, mark, count])?;
+    table.extend_from_slice(slots.as_flattened())
 }
 
 pub(crate) fn house_table(heap: Global) -> Result<Vec<u8>, AllocError> {
