@@ -7,8 +7,6 @@ mod calls;
 mod long_cues;
 #[cfg(test)]
 mod other_forms;
-#[cfg(test)]
-mod tables;
 
 #[cfg(test)]
 use cues::answers::Refusal;

@@ -1,6 +1,5 @@
 // The same check with link tables, layers and packed tables: the walk knows guides and grammars by their meaning only.
 use crate::long_cues::Cue;
-use crate::tables::house_table;
 use crate::verdict_line;
 use grammar::Grammar;
 use grammar::barred::Barred;
@@ -10,6 +9,8 @@ use guide::Guide;
 use guide::link_table::LinkTable;
 use guide::listing::Listing;
 use packed::Packed;
+use second_checker::plain::house;
+use second_checker::writing::{seven_at_five, write_records, write_table};
 use std::alloc::{AllocError, Global};
 use std::process::Abort;
 use std::test::Fail;
@@ -19,20 +20,6 @@ const SEVEN_AT_FIVE: &[u8] = b"(0\n(2\n(3\n=37\n)\n=40\n(3\n=35\n)\n)\n)\n";
 // The text "7 @5" with blanks allowed: one space before the sign, none behind it.
 const SPACED_SEVEN: &[u8] =
     b"(0\n(2\n(3\n=37\n)\n(9\n=20\n(8\n)\n)\n=40\n(8\n)\n(3\n=35\n)\n)\n)\n";
-
-// The link table of 7@5, where record 2 has this sibling.
-fn seven_at_five(heap: Global, sibling: u8) -> Result<Vec<u8>, AllocError> {
-    let records = [
-        [1, 0, 0, 0, 0, 1, 0, 0],
-        [1, 0, 0, 2, 0, 2, 0, 0],
-        [1, 0, 0, 3, 0, 3, 0, sibling],
-        [2, 0, 0, b'7', 0, 0, 0, 0],
-        [2, 0, 0, b'@', 0, 0, 0, 5],
-        [1, 0, 0, 3, 0, 6, 0, 0],
-        [2, 0, 0, b'5', 0, 0, 0, 0],
-    ];
-    records.as_flattened().to_vec(heap)
-}
 
 fn expect<B: Grammar, G: Guide>(
     rt: &impl Abort,
@@ -50,7 +37,7 @@ fn expect<B: Grammar, G: Guide>(
 #[test]
 fn link_table(rt: HostRuntime) -> Result<(), Fail> {
     let heap = rt.alloc();
-    let table = seven_at_five(heap, 4)?;
+    let table = write_records(heap, &seven_at_five(4))?;
     expect(
         &rt,
         heap,
@@ -59,7 +46,7 @@ fn link_table(rt: HostRuntime) -> Result<(), Fail> {
         b"7@5",
         "ok rules=4 bytes=3 steps=12\n",
     )?;
-    let wrong = seven_at_five(heap, 5)?;
+    let wrong = write_records(heap, &seven_at_five(5))?;
     expect(
         &rt,
         heap,
@@ -103,7 +90,7 @@ fn blanks(rt: HostRuntime) -> Result<(), Fail> {
 #[test]
 fn packed_table(rt: HostRuntime) -> Result<(), Fail> {
     let heap = rt.alloc();
-    let table = house_table(heap)?;
+    let table = write_table(heap, &house(heap)?)?;
     let (packed, opened) = Packed::open(&table);
     assert!(rt; opened.is_ok());
     expect(

@@ -11,6 +11,7 @@ pub mod plain;
 pub mod reading;
 pub mod sheet;
 pub mod table;
+pub mod writing;
 
 use std::fmt;
 

@@ -110,7 +110,7 @@ pub fn house(heap: Global) -> Result<Plain, AllocError> {
     house.add(heap, 2, false, &[digit, num])?;
     house.add(heap, 0, false, &[Piece::Range(b'#', b'#'), rest])?;
     house.add(heap, 3, false, &[])?;
-    house.add(heap, 3, false, &[Piece::Except(10, 13, 10), rest])?;
+    house.add(heap, 3, false, &[Piece::Except(10, 13, 13), rest])?;
     Ok(house)
 }
 

@@ -1,6 +1,6 @@
 // Random calls.
 use crate::damage::{bend, pad, random_byte, random_move, shake};
-use crate::moves::{deeper_record, depth_of, links_of, spell, write_link_table, write_listing};
+use crate::moves::{deeper_record, depth_of, records_of, spell, write_listing};
 use crate::random::Random;
 use crate::scenes::{Call, Taste};
 use crate::trees::{Budget, grow, grow_exactly};
@@ -8,6 +8,7 @@ use cues::requests::Request;
 use guide::written::Form;
 use second_checker::plain::Plain;
 use second_checker::sheet::Sheet;
+use second_checker::writing::write_records;
 use second_checker::{Move, narrow};
 use std::alloc::{AllocError, Global};
 
@@ -110,8 +111,8 @@ fn fair_load(
     let (form, guide) = if random.chance(50) {
         (Form::Listing, write_listing(heap, moves)?)
     } else {
-        let links = links_of(heap, moves)?;
-        (Form::Links, write_link_table(heap, links.as_slice())?)
+        let records = records_of(heap, moves)?;
+        (Form::Links, write_records(heap, records.as_slice())?)
     };
     Ok(Call {
         request,
@@ -213,25 +214,25 @@ fn make_link_table(
     random: &mut Random,
     moves: &[Move],
 ) -> Result<Vec<u8>, AllocError> {
-    let mut links = links_of(heap, moves)?;
+    let mut records = records_of(heap, moves)?;
     if let Some(number) = deeper_record(moves)
         && random.chance(50)
     {
-        bend(random, &mut links, number);
+        bend(random, &mut records, number);
     }
     if random.chance(15) {
-        let number = random.below(links.len());
-        bend(random, &mut links, number);
+        let number = random.below(records.len());
+        bend(random, &mut records, number);
         if random.chance(40) {
-            bend(random, &mut links, number.saturating_sub(1));
+            bend(random, &mut records, number.saturating_sub(1));
         }
     }
     if random.chance(10)
-        && let Some(link) = links.first().copied()
+        && let Some(record) = records.first().copied()
     {
-        shake(random, &mut links, link)?;
+        shake(random, &mut records, record)?;
     }
-    let mut table = write_link_table(heap, links.as_slice())?;
+    let mut table = write_records(heap, records.as_slice())?;
     match random.below(40) {
         0 | 1 => {
             let new = random.byte();

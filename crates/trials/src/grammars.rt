@@ -1,7 +1,8 @@
-// Random grammars, and their packed tables.
+// Random grammars.
 use crate::random::Random;
 use second_checker::narrow;
-use second_checker::plain::{Piece, Plain, Rule};
+use second_checker::plain::{Piece, Plain};
+use second_checker::writing::MOST_PARTS;
 use std::alloc::{AllocError, Global};
 
 // What a random grammar is to be like: few short rules, rules of many parts, or as many symbols and rules as a table may have.
@@ -11,9 +12,6 @@ pub enum Build {
     Wide,
     Huge,
 }
-
-// The most parts of a packed rule.
-pub(crate) const MOST_PARTS: usize = 15;
 
 // The first rules, one for each symbol, are of bytes alone, so that every symbol has a tree. The others may name any symbol.
 pub(crate) fn random_grammar(
@@ -93,39 +91,4 @@ pub(crate) fn counting_grammar(heap: Global) -> Result<Plain, AllocError> {
     grammar.add(heap, 0, false, &[Piece::Range(0, 255); MOST_PARTS])?;
     grammar.add(heap, 0, false, &[Piece::Range(0, 255)])?;
     Ok(grammar)
-}
-
-// The packed table of a grammar without gaps.
-pub(crate) fn write_table(heap: Global, grammar: &Plain) -> Result<Vec<u8>, AllocError> {
-    let mut table = Vec::new(heap);
-    table.extend_from_slice(&grammar.symbols.to_be_bytes())?;
-    table.extend_from_slice(&narrow(grammar.rules.len()).to_be_bytes())?;
-    table.extend_from_slice(&grammar.start.to_be_bytes())?;
-    table.extend_from_slice(&[0, 0])?;
-    for rule in grammar.rules.iter().flatten() {
-        write_row(&mut table, rule)?;
-    }
-    Ok(table)
-}
-
-fn write_row(table: &mut Vec<u8>, rule: &Rule) -> Result<(), AllocError> {
-    let count = u8::try_from(rule.pieces.len()).unwrap_or(u8::MAX);
-    let mut slots = [[0; 4]; MOST_PARTS];
-    for (slot, piece) in slots.iter_mut().zip(rule.pieces.iter()) {
-        *slot = slot_of(*piece);
-    }
-    table.extend_from_slice(&rule.left.to_be_bytes())?;
-    table.extend_from_slice(&[u8::from(rule.loose), count])?;
-    table.extend_from_slice(slots.as_flattened())
-}
-
-fn slot_of(piece: Piece) -> [u8; 4] {
-    match piece {
-        Piece::Symbol(symbol) => {
-            let [high, low] = symbol.to_be_bytes();
-            [1, 0, high, low]
-        }
-        Piece::Range(low, high) => [2, low, high, 0],
-        Piece::Except(x, y, z) => [3, x, y, z],
-    }
 }

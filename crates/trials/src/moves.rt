@@ -1,16 +1,7 @@
-// The walk of a tree, and its three written forms: the text, the listing and the link table.
+// The walk of a tree, and its three written forms: the text, the listing and the records of the link table.
+use second_checker::writing::Record;
 use second_checker::{Move, narrow};
 use std::alloc::{AllocError, Global};
-
-// A record of a link table. Its kind is a bare number, so that damage can turn it into none.
-#[derive(Clone, Copy)]
-pub struct Link {
-    pub kind: u8,
-    pub zero: u8,
-    pub value: u16,
-    pub child: u16,
-    pub sibling: u16,
-}
 
 // The link of a record that the next node is to be tied to.
 #[derive(Clone, Copy)]
@@ -72,65 +63,44 @@ pub(crate) fn write_listing(heap: Global, moves: &[Move]) -> Result<Vec<u8>, All
 }
 
 // The records of the nodes. Moves whose brackets do not match are written as nearly as a table can.
-pub(crate) fn links_of(heap: Global, moves: &[Move]) -> Result<Vec<Link>, AllocError> {
-    let mut links = Vec::new(heap);
+pub(crate) fn records_of(heap: Global, moves: &[Move]) -> Result<Vec<Record>, AllocError> {
+    let mut records = Vec::new(heap);
     let mut above = Vec::new(heap);
     let mut tie = None;
     for each in moves {
-        let number = links.len();
+        let number = records.len();
         match each {
             Move::Enter(rule) => {
-                tie_to(&mut links, tie, number);
-                links.push(record(1, *rule))?;
+                tie_to(&mut records, tie, number);
+                records.push(Record::rule(*rule, 0, 0))?;
                 above.push(Tie::SiblingOf(number))?;
                 tie = Some(Tie::ChildOf(number))
             }
             Move::Byte(byte) => {
-                tie_to(&mut links, tie, number);
-                links.push(record(2, u16::from(*byte)))?;
+                tie_to(&mut records, tie, number);
+                records.push(Record::leaf(u16::from(*byte), 0))?;
                 tie = Some(Tie::SiblingOf(number))
             }
             Move::Leave => tie = above.pop().or(tie),
         }
     }
-    Ok(links)
-}
-
-fn record(kind: u8, value: u16) -> Link {
-    Link {
-        kind,
-        zero: 0,
-        value,
-        child: 0,
-        sibling: 0,
-    }
+    Ok(records)
 }
 
 // Ties the record with that number.
-fn tie_to(links: &mut [Link], tie: Option<Tie>, number: usize) {
+fn tie_to(records: &mut [Record], tie: Option<Tie>, number: usize) {
     let number = narrow(number);
     match tie {
         Some(Tie::ChildOf(parent)) => {
-            if let Some(link) = links.get_mut(parent) {
-                link.child = number;
+            if let Some(record) = records.get_mut(parent) {
+                record.child = number;
             }
         }
         Some(Tie::SiblingOf(newest)) => {
-            if let Some(link) = links.get_mut(newest) {
-                link.sibling = number;
+            if let Some(record) = records.get_mut(newest) {
+                record.sibling = number;
             }
         }
         None => {}
     }
-}
-
-pub(crate) fn write_link_table(heap: Global, links: &[Link]) -> Result<Vec<u8>, AllocError> {
-    let mut table = Vec::new(heap);
-    for each in links {
-        table.extend_from_slice(&[each.kind, each.zero])?;
-        table.extend_from_slice(&each.value.to_be_bytes())?;
-        table.extend_from_slice(&each.child.to_be_bytes())?;
-        table.extend_from_slice(&each.sibling.to_be_bytes())?;
-    }
-    Ok(table)
 }

@@ -1,6 +1,6 @@
 // What the calls of a run are handed: a scene is the grammar, and a call has all else.
 use crate::damage::shake;
-use crate::grammars::{Build, counting_grammar, random_grammar, write_table};
+use crate::grammars::{Build, counting_grammar, random_grammar};
 use crate::product;
 use crate::random::Random;
 use crate::tally::Tally;
@@ -10,6 +10,7 @@ use second_checker::failure::answered;
 use second_checker::narrow;
 use second_checker::plain::{Plain, house, spaced};
 use second_checker::table::read_table;
+use second_checker::writing::write_table;
 use std::alloc::{AllocError, Global};
 
 // What the trees of a run are to be like: small, with long texts, with many nodes open at once, or with a number of nodes at the limits.

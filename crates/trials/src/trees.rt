@@ -1,7 +1,8 @@
 // Random trees of a grammar, as their walks.
-use crate::grammars::{MANY_BYTES, MOST_PARTS, ONE_BYTE};
+use crate::grammars::{MANY_BYTES, ONE_BYTE};
 use crate::random::Random;
 use second_checker::plain::{Piece, Plain, Rule};
+use second_checker::writing::MOST_PARTS;
 use second_checker::{Move, narrow};
 use std::alloc::{AllocError, Global};
 
