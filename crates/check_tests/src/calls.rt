@@ -144,19 +144,25 @@ fn refusals_in_order(rt: HostRuntime) -> Result<(), Fail> {
     Ok(())
 }
 
+// A load under no number: it is refused before the check.
+fn load_unread(memory: &mut Blocks, guide: &mut Listing<'_>) -> Result<Answer, Refusal> {
+    let text = *b"7@5";
+    let mut lent = Lent {
+        text: &text,
+        grammar: &House,
+        guide,
+        frames: &mut [Frame::BLANK; 3],
+        buffer: &mut [],
+    };
+    perform(memory, Request::Load(0), &mut lent)
+}
+
 // A load that is refused before the check leaves its guide unread.
 #[test]
 fn guide_unread(rt: HostRuntime) -> Result<(), Fail> {
     let mut memory = Blocks::new();
     let mut guide = Listing::new(b"(0\n");
-    let mut lent = Lent {
-        text: b"7@5",
-        grammar: &House,
-        guide: &mut guide,
-        frames: &mut [Frame::BLANK; 3],
-        buffer: &mut [],
-    };
-    let answer = perform(&mut memory, Request::Load(0), &mut lent);
+    let answer = load_unread(&mut memory, &mut guide);
     expect_refused(&rt, answer, 1)?;
     assert!(rt; guide.next() == Ok(Some(Event::Enter(0))));
     Ok(())
