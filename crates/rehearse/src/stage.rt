@@ -4,20 +4,19 @@ use cues::calls::free;
 use cues::requests::{Lent, Request, perform};
 use grammar::barred::Barred;
 use grammar::blanks::Blanks;
-use grammar::either::Either;
 use grammar::house::House;
 use guide::written::{Form, Written};
 use memory::blocks::Blocks;
-use packed::Packed;
-use packed::base::Base;
-use report::line::answer_line;
+use packed::{Packed, base};
+use report::line::{Answered, answer_line};
 use std::alloc::{AllocError, Global};
 use walk::state::Frame;
 
-// The grammar is the packed table or, where there is none, the house grammar; then blanks are let in if wanted, and then rules barred.
+// The grammar is that of the table, which without any bytes is the house grammar; then blanks are let in if wanted, and then rules
+// barred.
 #[derive(Drop)]
 pub struct Stage {
-    table: Option<Vec<u8>>,
+    table: Vec<u8>,
     blanks: bool,
     bars: Vec<u16>,
     text: Vec<u8>,
@@ -31,7 +30,7 @@ impl Stage {
     // An empty text, an empty listing, the house grammar, and room for every lawful load and fetch.
     pub(crate) fn new(heap: Global) -> Stage {
         Stage {
-            table: None,
+            table: Vec::new(heap),
             blanks: false,
             bars: Vec::new(heap),
             text: Vec::new(heap),
@@ -44,8 +43,8 @@ impl Stage {
 
     pub(crate) fn set(&mut self, heap: Global, setting: Setting<'_>) -> Result<(), Trouble> {
         match setting {
-            Setting::House => self.table = None,
-            Setting::Table(hex) => self.table = Some(table_in(heap, hex)?),
+            Setting::House => self.table.clear(),
+            Setting::Table(hex) => self.table = table_in(heap, hex)?,
             Setting::Blanks(on) => self.blanks = on,
             Setting::Bar(rule) => {
                 Barred::new(House).bar(rule)?;
@@ -68,26 +67,17 @@ impl Stage {
         Ok(())
     }
 
-    fn base(&self) -> Base<'_> {
-        match &self.table {
-            None => Either::First(House),
-            Some(table) => {
-                let (packed, _) = Packed::open(table.as_slice());
-                Either::Second(packed)
-            }
-        }
-    }
-
     // Makes the call, and gives its answer line.
     pub(crate) fn call(
         &self,
         heap: Global,
         memory: &mut Blocks,
         request: Request,
-    ) -> Result<String, AllocError> {
-        let mut grammar = Barred::new(Blanks::new(self.base(), self.blanks));
+    ) -> Result<String, Trouble> {
+        let base = base::open(self.table.as_slice())?;
+        let mut grammar = Barred::new(Blanks::new(base, self.blanks));
         for rule in self.bars.iter() {
-            let _ = grammar.bar(*rule);
+            grammar.bar(*rule)?;
         }
         let mut guide = Written::new(self.form, self.guide.as_slice());
         let mut frames = vec![in heap; Frame::BLANK; self.frames as usize]?;
@@ -103,7 +93,11 @@ impl Stage {
                 buffer: &mut buffer,
             },
         );
-        answer_line(heap, answer, free(memory))
+        let answered = Answered {
+            answer,
+            free: free(memory),
+        };
+        Ok(answer_line(heap, answered)?)
     }
 }
 

@@ -110,14 +110,9 @@ impl fmt::Display for Answered {
 }
 
 // The line for an answer after which so many blocks are free, or an error where memory runs out.
-pub fn answer_line(
-    heap: Global,
-    answer: Result<Answer, Refusal>,
-    free: u16,
-) -> Result<String, AllocError>
-    ensures { IfOk result (λ s. string_bytes s ≡ answer_line answer free) }
+pub fn answer_line(heap: Global, answered: Answered) -> Result<String, AllocError>
+    ensures { IfOk result (λ s. string_bytes s ≡ answer_line answered.answer answered.free) }
 {
-    let answered = Answered { answer, free };
     format!(in heap; "{answered}\n")
 }
 
@@ -126,7 +121,7 @@ pub fn line(heap: Global, outcome: Outcome) -> Result<String, AllocError>
     ensures { IfOk result (λ s. string_bytes s ≡ line_of outcome) }
 {
     match outcome {
-        Ok(answered) => answer_line(heap, answered.answer, answered.free),
+        Ok(answered) => answer_line(heap, answered),
         Err(too_long) => format!(in heap; "{too_long}\n"),
     }
 }
