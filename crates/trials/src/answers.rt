@@ -11,6 +11,20 @@ pub struct Answer(pub Result<Said, Refusal>);
 #[derive(Clone, Copy, PartialEq, Eq)]
 pub struct Told(pub Result<Option<Move>, Fault>);
 
+// Whether something that is handed in is refused: by which number, and the rule concerned. In numbers, since two checkers with enums of
+// their own have nothing else in common.
+#[derive(Clone, Copy, PartialEq, Eq)]
+pub struct Refused(pub Option<(u8, usize)>);
+
+impl fmt::Display for Refused {
+    fn fmt<W: fmt::Write>(&self, f: &mut fmt::Formatter<W>) -> fmt::Result {
+        match self.0 {
+            Some((number, rule)) => write!(f, "{number} at rule {rule}"),
+            None => write!(f, "taken"),
+        }
+    }
+}
+
 impl fmt::Display for Answer {
     fn fmt<W: fmt::Write>(&self, f: &mut fmt::Formatter<W>) -> fmt::Result {
         match &self.0 {

@@ -1,5 +1,5 @@
 // What the product answers, in the form in which both checkers are compared.
-use crate::answers::{Answer, Told};
+use crate::answers::{Answer, Refused, Told};
 use crate::scenes::{Call, Layers, Scene};
 use cues::answers;
 use cues::answers::Refusal;
@@ -28,17 +28,16 @@ pub struct Heard {
     pub same_grammar: bool,
 }
 
-// Why the product refuses a table: the number and the rule.
-pub(crate) fn table_refusal(table: &[u8]) -> Option<(u8, usize)> {
-    let (_, opened) = Packed::open(table);
-    let fault = opened.err()?;
-    Some((fault.number(), usize::from(fault.rule())))
+// Whether the product refuses a table.
+pub(crate) fn table_refusal(table: &[u8]) -> Refused {
+    let fault = Packed::try_from(table).err();
+    Refused(fault.map(|fault| (fault.number(), usize::from(fault.rule()))))
 }
 
-// By which number the product refuses a bar.
-pub(crate) fn bar_refusal(number: u16) -> Option<u8> {
-    let mut barred = Barred::new(House);
-    barred.bar(number).err().map(|refusal| refusal.number())
+// Whether the product refuses to bar a rule number.
+pub(crate) fn bar_refusal(number: u16) -> Refused {
+    let refusal = Barred::new(House).bar(number).err();
+    Refused(refusal.map(|refusal| (refusal.number(), usize::from(number))))
 }
 
 // Makes the call under the scene's grammar.
@@ -58,6 +57,7 @@ pub(crate) fn make_call(
     }
 }
 
+// A number that is refused changes nothing.
 fn barring<B: Grammar>(below: B, bars: &[u16]) -> Barred<B> {
     let mut grammar = Barred::new(below);
     for number in bars {
@@ -66,6 +66,7 @@ fn barring<B: Grammar>(below: B, bars: &[u16]) -> Barred<B> {
     grammar
 }
 
+// Each pile of layers is a type of its own.
 fn under<B: Grammar + Drop>(
     heap: Global,
     memory: &mut Blocks,
@@ -113,22 +114,35 @@ fn with<B: Grammar>(
     };
     let answer = perform(memory, call.request, &mut lent);
     Ok(Heard {
-        answer: Answer(said_by(answer)),
-        told: Told(told_by(lent.guide.next())),
+        answer: Answer::from(answer),
+        told: Told::from(lent.guide.next()),
         same_grammar: answers_alike(grammar, plain),
     })
 }
 
-fn said_by(answer: Result<answers::Answer, Refusal>) -> Result<Said, numbers::Refusal> {
-    match answer.map_err(refusal_by)? {
-        answers::Answer::Loaded(accepted) => Ok(Said::Loaded(Loaded {
+impl From<Result<answers::Answer, Refusal>> for Answer {
+    fn from(answer: Result<answers::Answer, Refusal>) -> Answer {
+        Answer(answer.map(said_by).map_err(refusal_by))
+    }
+}
+
+impl From<Result<Option<Event>, Fault>> for Told {
+    fn from(told: Result<Option<Event>, Fault>) -> Told {
+        Told(told.map(|event| event.map(move_by)).map_err(fault_by))
+    }
+}
+
+// By functions, as the three below: what they turn and into what are types of other crates, for which no `From` can stand here.
+fn said_by(answer: answers::Answer) -> Said {
+    match answer {
+        answers::Answer::Loaded(accepted) => Said::Loaded(Loaded {
             rules: accepted.rules as usize,
             bytes: accepted.bytes,
             steps: accepted.steps as usize,
-        })),
-        answers::Answer::Cleared(number) => Ok(Said::Cleared(number)),
-        answers::Answer::Fetched(length) => Ok(Said::Fetched(length)),
-        answers::Answer::Free(blocks) => Ok(Said::Free(usize::from(blocks))),
+        }),
+        answers::Answer::Cleared(number) => Said::Cleared(number),
+        answers::Answer::Fetched(length) => Said::Fetched(length),
+        answers::Answer::Free(blocks) => Said::Free(usize::from(blocks)),
     }
 }
 
@@ -148,10 +162,6 @@ fn refusal_by(refusal: Refusal) -> numbers::Refusal {
         bytes: refusal.bytes(),
         fault,
     }
-}
-
-fn told_by(told: Result<Option<Event>, Fault>) -> Result<Option<Move>, numbers::Fault> {
-    told.map(|event| event.map(move_by)).map_err(fault_by)
 }
 
 fn fault_by(fault: Fault) -> numbers::Fault {

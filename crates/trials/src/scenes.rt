@@ -1,4 +1,5 @@
 // What the calls of a run are handed: a scene is the grammar, and a call has all else.
+use crate::answers::Refused;
 use crate::damage::shake;
 use crate::grammars::{Build, counting_grammar, random_grammar};
 use crate::product;
@@ -134,20 +135,14 @@ fn damage_table(random: &mut Random, table: &mut Vec<u8>) -> Result<(), AllocErr
 // The plain grammar of a table. Where the two checks of the table differ, that is noted.
 fn open_table(heap: Global, table: &[u8], tally: &mut Tally) -> Result<Plain, AllocError> {
     let by_product = product::table_refusal(table);
-    let (plain, by_second) = match answered(read_table(heap, table))? {
+    let (plain, flaw) = match answered(read_table(heap, table))? {
         Ok(plain) => (plain, None),
         Err(flaw) => (Plain::empty(heap), Some((flaw.number(), flaw.rule()))),
     };
-    if let Some((number, _)) = by_product {
+    if let Some((number, _)) = by_product.0 {
         tally.count(number);
     }
-    if by_product != by_second {
-        let (a, rule_a) = by_product.unwrap_or((0, 0));
-        let (b, rule_b) = by_second.unwrap_or((0, 0));
-        let a = format!(in heap; "{a} at rule {rule_a}")?;
-        let b = format!(in heap; "{b} at rule {rule_b}")?;
-        tally.disagree(heap, "table", a.as_str(), b.as_str())?;
-    }
+    tally.compare(heap, "table", &by_product, &Refused(flaw))?;
     Ok(plain)
 }
 
@@ -172,19 +167,12 @@ fn make_bars(
 
 fn compare_bar(heap: Global, number: u16, tally: &mut Tally) -> Result<(), AllocError> {
     let by_product = product::bar_refusal(number);
-    let by_second = Plain::empty(heap)
-        .bar(number)
-        .err()
-        .map(|flaw| flaw.number());
-    if let Some(refusal) = by_product {
+    let flaw = Plain::empty(heap).bar(number).err();
+    if let Some((refusal, _)) = by_product.0 {
         tally.count(refusal);
     }
-    if by_product != by_second {
-        let a = by_product.unwrap_or(0).to_string(heap)?;
-        let b = by_second.unwrap_or(0).to_string(heap)?;
-        tally.disagree(heap, "bar", a.as_str(), b.as_str())?;
-    }
-    Ok(())
+    let by_second = Refused(flaw.map(|flaw| (flaw.number(), usize::from(number))));
+    tally.compare(heap, "bar", &by_product, &by_second)
 }
 
 fn put_layers(
