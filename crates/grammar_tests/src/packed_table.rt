@@ -12,21 +12,9 @@ mod tests {
     // Four symbols, start 0. Rule 0: symbol 0, loose, the parts symbol 3 and a digit. Rule 1: symbol 1, tight, any byte but 10 and 13.
     fn sample() -> [u8; 136] {
         let mut table = [0; 136];
-        table[1] = 4;
-        table[3] = 2;
-        table[10] = 1;
-        table[11] = 2;
-        table[12] = 1;
-        table[15] = 3;
-        table[16] = 2;
-        table[17] = 48;
-        table[18] = 57;
-        table[73] = 1;
-        table[75] = 1;
-        table[76] = 3;
-        table[77] = 10;
-        table[78] = 13;
-        table[79] = 13;
+        table[..4].copy_from_slice(&[0, 4, 0, 2]);
+        table[8..20].copy_from_slice(&[0, 0, 1, 2, 1, 0, 0, 3, 2, b'0', b'9', 0]);
+        table[72..80].copy_from_slice(&[0, 1, 0, 1, 3, 10, 13, 13]);
         table
     }
 

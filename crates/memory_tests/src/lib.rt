@@ -11,13 +11,10 @@ mod tests {
 
     // The bytes of a text of some length, other bytes for each number.
     fn text_for(heap: Global, number: u16, length: usize) -> Result<Vec<u8>, AllocError> {
-        let mut text = vec![in heap; 0u8; length]?;
-        let mut next = number;
-        for byte in text.iter_mut() {
-            *byte = (next % 251) as u8;
-            next = next.wrapping_add(1);
-        }
-        Ok(text)
+        let first = usize::from(number);
+        (first..first.saturating_add(length))
+            .map(|next| (next % 251) as u8)
+            .collect(heap)
     }
 
     fn store(
