@@ -108,6 +108,7 @@ pub(crate) fn replay_on<M: Memory>(memory: &mut M, script: &[u8], answers: &mut 
     ensures { Replayed M.Memory.block_count (M.Memory.texts memory.old) script.now answers.old result answers.new }
 {
     let mut frames = [Frame::BLANK; FRAMES];
+    // Counted: of a slice that shrinks at each turn a proof does not know what was written before.
     let mut written = 0;
     let calls = Calls { rest: script };
     for call in calls {

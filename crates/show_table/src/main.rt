@@ -25,7 +25,7 @@ fn main(rt: HostRuntime) -> io::Result<()> {
     Ok(())
 }
 
-// One line for each rule: its number and mark, its left symbol, and then its parts.
+// One line for each rule number, by which a grammar answers: the number and mark, the left symbol, and then the parts.
 fn show_rule(rt: &HostRuntime, grammar: &Packed, rule: u16) -> io::Result<()> {
     let (Some(left), Some(mark), Some(count)) = (
         grammar.left(rule),

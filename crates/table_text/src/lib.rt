@@ -1,4 +1,4 @@
-// The pieces of a grammar as text, for people to read.
+// The pieces of a grammar as text, for people to read: what `Display` writes of each, as strings that a caller can keep.
 #![tactic(auto)]
 
 ghost use Rattle.std.specs.Prelude.{◌≡◌, IfOk, string_bytes};
