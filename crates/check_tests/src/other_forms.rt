@@ -1,7 +1,6 @@
 // The same check with link tables, layers and packed tables: the walk knows guides and grammars by their meaning only.
 use crate::long_cues::Cue;
-use crate::tables::house_table;
-use crate::verdict_line;
+use crate::{SEVEN_AT_FIVE, expect, verdict_line};
 use grammar::Grammar;
 use grammar::barred::Barred;
 use grammar::house::House;
@@ -10,69 +9,38 @@ use guide::Guide;
 use guide::link_table::LinkTable;
 use guide::listing::Listing;
 use packed::Packed;
+use second_checker::plain::house;
+use second_checker::writing::{seven_at_five, write_records, write_table};
 use std::alloc::{AllocError, Global};
-use std::process::Abort;
 use std::test::Fail;
-use walk::check as check_guide;
-use walk::state::Frame;
-
-const SEVEN_AT_FIVE: &[u8] = b"(0\n(2\n(3\n=37\n)\n=40\n(3\n=35\n)\n)\n)\n";
 
 // The text "7 @5" with blanks allowed: one space before the sign, none behind it.
 const SPACED_SEVEN: &[u8] =
     b"(0\n(2\n(3\n=37\n)\n(9\n=20\n(8\n)\n)\n=40\n(8\n)\n(3\n=35\n)\n)\n)\n";
 
-// The link table of 7@5, where record 2 has this sibling.
-fn seven_at_five(heap: Global, sibling: u8) -> Result<Vec<u8>, AllocError> {
-    let records = [
-        [1, 0, 0, 0, 0, 1, 0, 0],
-        [1, 0, 0, 2, 0, 2, 0, 0],
-        [1, 0, 0, 3, 0, 3, 0, sibling],
-        [2, 0, 0, b'7', 0, 0, 0, 0],
-        [2, 0, 0, b'@', 0, 0, 0, 5],
-        [1, 0, 0, 3, 0, 6, 0, 0],
-        [2, 0, 0, b'5', 0, 0, 0, 0],
-    ];
-    let mut table = Vec::new(heap);
-    for record in &records {
-        table.extend_from_slice(record)?;
-    }
-    Ok(table)
-}
-
-fn expect<B: Grammar, G: Guide>(
-    rt: &impl Abort,
+// The line for a guide, with all frames lent that count.
+fn line<B: Grammar, G: Guide>(
     heap: Global,
     grammar: &B,
     guide: &mut G,
     text: &[u8],
-    expected: &str,
-) -> Result<(), Fail> {
-    let mut frames = [Frame::BLANK; 1_024];
-    let line = verdict_line(heap, check_guide(grammar, guide, text, &mut frames))?;
-    assert_eq!(rt; line.as_str(), expected);
-    Ok(())
+) -> Result<String, AllocError> {
+    verdict_line(heap, grammar, guide, text, 1_024)
 }
 
 #[test]
 fn link_table(rt: HostRuntime) -> Result<(), Fail> {
     let heap = rt.alloc();
-    let table = seven_at_five(heap, 4)?;
+    let table = write_records(heap, &seven_at_five(4))?;
     expect(
         &rt,
-        heap,
-        &House,
-        &mut LinkTable::new(&table),
-        b"7@5",
+        line(heap, &House, &mut LinkTable::new(&table), b"7@5"),
         "ok rules=4 bytes=3 steps=12\n",
     )?;
-    let wrong = seven_at_five(heap, 5)?;
+    let wrong = write_records(heap, &seven_at_five(5))?;
     expect(
         &rt,
-        heap,
-        &House,
-        &mut LinkTable::new(&wrong),
-        b"7@5",
+        line(heap, &House, &mut LinkTable::new(&wrong), b"7@5"),
         "no 5 event=5 at=1 guide=43 place=32\n",
     )
 }
@@ -83,26 +51,17 @@ fn blanks(rt: HostRuntime) -> Result<(), Fail> {
     let spaced = Spaced::new(House);
     expect(
         &rt,
-        heap,
-        &spaced,
-        &mut Listing::new(SPACED_SEVEN),
-        b"7 @5",
+        line(heap, &spaced, &mut Listing::new(SPACED_SEVEN), b"7 @5"),
         "ok rules=7 bytes=4 steps=19\n",
     )?;
     expect(
         &rt,
-        heap,
-        &House,
-        &mut Listing::new(SPACED_SEVEN),
-        b"7 @5",
+        line(heap, &House, &mut Listing::new(SPACED_SEVEN), b"7 @5"),
         "no 7 event=5 at=1\n",
     )?;
     expect(
         &rt,
-        heap,
-        &spaced,
-        &mut Listing::new(SEVEN_AT_FIVE),
-        b"7@5",
+        line(heap, &spaced, &mut Listing::new(SEVEN_AT_FIVE), b"7@5"),
         "no 7 event=5 at=1\n",
     )
 }
@@ -110,24 +69,18 @@ fn blanks(rt: HostRuntime) -> Result<(), Fail> {
 #[test]
 fn packed_table(rt: HostRuntime) -> Result<(), Fail> {
     let heap = rt.alloc();
-    let table = house_table(heap)?;
+    let table = write_table(heap, &house(heap)?)?;
     let (packed, opened) = Packed::open(&table);
     assert!(rt; opened.is_ok());
     expect(
         &rt,
-        heap,
-        &packed,
-        &mut Listing::new(SEVEN_AT_FIVE),
-        b"7@5",
+        line(heap, &packed, &mut Listing::new(SEVEN_AT_FIVE), b"7@5"),
         "ok rules=4 bytes=3 steps=12\n",
     )?;
     let spaced = Spaced::new(packed);
     expect(
         &rt,
-        heap,
-        &spaced,
-        &mut Listing::new(SPACED_SEVEN),
-        b"7 @5",
+        line(heap, &spaced, &mut Listing::new(SPACED_SEVEN), b"7 @5"),
         "ok rules=7 bytes=4 steps=19\n",
     )
 }
@@ -138,19 +91,13 @@ fn barred_rule(rt: HostRuntime) -> Result<(), Fail> {
     let mut barred = Barred::new(House);
     expect(
         &rt,
-        heap,
-        &barred,
-        &mut Listing::new(SEVEN_AT_FIVE),
-        b"7@5",
+        line(heap, &barred, &mut Listing::new(SEVEN_AT_FIVE), b"7@5"),
         "ok rules=4 bytes=3 steps=12\n",
     )?;
     assert!(rt; barred.bar(3).is_ok());
     expect(
         &rt,
-        heap,
-        &barred,
-        &mut Listing::new(SEVEN_AT_FIVE),
-        b"7@5",
+        line(heap, &barred, &mut Listing::new(SEVEN_AT_FIVE), b"7@5"),
         "no 8 event=2 at=0\n",
     )
 }
@@ -174,18 +121,17 @@ fn event_limit(rt: HostRuntime) -> Result<(), Fail> {
     longer.add_last(99)?;
     expect(
         &rt,
-        heap,
-        &spaced,
-        &mut Listing::new(&cue.listing),
-        &cue.text,
+        line(heap, &spaced, &mut Listing::new(&cue.listing), &cue.text),
         "ok rules=5401 bytes=5198 steps=16001\n",
     )?;
     expect(
         &rt,
-        heap,
-        &spaced,
-        &mut Listing::new(&longer.listing),
-        &longer.text,
+        line(
+            heap,
+            &spaced,
+            &mut Listing::new(&longer.listing),
+            &longer.text,
+        ),
         "no 6 event=16000 at=5199\n",
     )
 }

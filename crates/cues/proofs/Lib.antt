@@ -1,4 +1,3 @@
-mod Ways
 mod Runs
 mod Laws
 mod Decided

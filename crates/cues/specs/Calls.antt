@@ -1,24 +1,31 @@
 -- What can be asked of a cue memory, by its meaning, and what is answered.
-use Rattle.std.specs.Prelude.{ℕ, List, Ok, Err, Result}
+use Rattle.std.specs.Prelude.{ℕ, List, Result}
+use Rattle.std.specs.Result.{result_map_both}
 use Rattle.guide.specs.Told.{Told}
 use Rattle.grammar.specs.Meaning.{Meaning}
+use Rattle.memory.specs.declared.Refusal.{Refusal as MemoryRefusal}
+use Rattle.memory.specs.Texts.{refusal_number as memory_number}
 use Rattle.tree.specs.declared.verdict.Accepted.{Accepted}
-use Rattle.tree.specs.Verdict.{Verdict, reason_number as check_number}
+use Rattle.tree.specs.Verdict.{Verdict, reason_number}
 use Rattle.tree.specs.Check.{depth_limit, verdict}
 use Rattle.cues.specs.declared.answers.Answer.{Answer}
-use Rattle.cues.specs.declared.answers.Reason.{Reason}
-use Rattle.cues.specs.declared.answers.Reason.TheVariants.{NumberOutside, AlreadyHeld, TextTooLong, NoRoom, Check, NotHeld, BufferTooShort}
 use Rattle.cues.specs.declared.answers.Refusal.{Refusal}
+use Rattle.cues.specs.declared.answers.Refusal.TheVariants.{Memory, Check}
 
--- the number of each reason
-abbrev pub reason_number : Reason → ℕ
-reason_number NumberOutside = 1
-reason_number AlreadyHeld = 2
-reason_number TextTooLong = 3
-reason_number NoRoom = 4
-reason_number (Check why) = check_number why
-reason_number NotHeld = 14
-reason_number BufferTooShort = 15
+-- the number of each refusal
+abbrev pub refusal_number : Refusal → ℕ
+refusal_number (Memory why) = memory_number why
+refusal_number (Check refusal) = reason_number refusal.reason
+
+-- how many events were accepted when it came: none before the check of a guide
+abbrev pub refusal_events : Refusal → ℕ
+refusal_events (Memory why) = 0
+refusal_events (Check refusal) = refusal.events
+
+-- how many text bytes were used when it came
+abbrev pub refusal_bytes : Refusal → ℕ
+refusal_bytes (Memory why) = 0
+refusal_bytes (Check refusal) = refusal.bytes
 
 -- what a load is handed: a cue number, a text, a grammar by its meaning, a guide by what it tells, and the entries of its frame memory
 pub record Load : Type 0 where
@@ -46,15 +53,17 @@ pub data Call : Type 0 where
   fetch : ℕ → List ℕ → Call
   free : Call
 
--- what went on, the newest first: calls with their answers
+-- what comes back of a call: its answer, or why it is refused
+abbrev pub Reply : Type 0
+Reply = Result Answer Refusal
+
+-- what went on, the newest first: calls with what came back
 abbrev pub History : Type 0
-History = List (Call × Answer)
+History = List (Call × Reply)
 
--- a refusal that no event came before
-abbrev pub at_once : Reason → Refusal
-at_once why = record { reason = why; events = 0; bytes = 0 }
+-- the memory's own answer, and the verdict on a guide, as a call passes them on
+abbrev pub by_memory : {A : Type 0} → Result A MemoryRefusal → Result A Refusal
+by_memory r = result_map_both (λ x. x) Memory r
 
--- what a load answers for the verdict on its guide
 abbrev pub checked : Verdict → Result Accepted Refusal
-checked (Ok a) = Ok a
-checked (Err f) = Err (record { reason = Check f.reason; events = f.events; bytes = f.bytes })
+checked v = result_map_both (λ a. a) Check v

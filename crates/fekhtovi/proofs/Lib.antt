@@ -1,9 +1,4 @@
 pub mod Barring
-pub mod Checked
-pub mod Chosen
-pub mod Reading
-pub mod Recorded
+pub mod Asked
 pub mod Paired
-pub mod Loaded
-pub mod Shorter
 pub mod Replaying

@@ -1,16 +1,13 @@
 -- Numbers as pairs of bytes.
-use Rattle.std.proofs.Common.{◌≡◌, ℕ, ◌+◌, ◌-◌, ◌*◌, ◌≤◌, List, [], ◌∷◌, length, get_or, take, drop, sym, refl, ap, ◌∙◌, arith}
-use Rattle.std.proofs.lemmas.Slice.{between_to_end}
-use Rattle.fekhtovi.specs.Pairs.{pairs_in}
+use Rattle.std.proofs.Common.{◌≡◌, ℕ, zero, suc, ◌+◌, ◌*◌, ◌<◌, ◌≤◌, List, [], ◌∷◌, map, length, refl, ap, arith}
+use Rattle.std.specs.Simd.{first_chunks}
+use Rattle.fekhtovi.specs.Pairs.{pair, pair_in, pairs_in}
 
-two : (bytes : List ℕ) → 2 ≤ length bytes → pairs_in bytes ≡ (get_or bytes 0 0 * 256 + get_or bytes 1 0) ∷ pairs_in (drop 2 bytes)
-two [] long = absurd (omega arith)
-two (h ∷ []) long = absurd (omega arith)
-two (h ∷ l ∷ rest) long = refl
-
--- the first pair, and those behind it
-pub pair_first : (bytes : List ℕ) (n : ℕ) → 2 ≤ length bytes → n ≡ get_or bytes 0 0 * 256 + get_or bytes 1 0
-    → pairs_in bytes ≡ n ∷ pairs_in (take (length bytes - 2) (drop 2 bytes))
-pair_first bytes n long is =
-    two bytes long
-    ∙ (ap (λ m. m ∷ pairs_in (drop 2 bytes)) (sym is) ∙ ap (λ rest. n ∷ pairs_in rest) (sym (between_to_end bytes 2 (length bytes) (omega arith))))
+-- the numbers of the chunks of two bytes are those of the bytes
+pub numbers_of_chunks : (k : ℕ) (bytes : List ℕ) → 2 * k ≤ length bytes → length bytes < 2 * k + 2 → map pair_in (first_chunks 2 k bytes) ≡ pairs_in bytes
+numbers_of_chunks zero [] few many = refl
+numbers_of_chunks zero (h ∷ []) few many = refl
+numbers_of_chunks zero (h ∷ l ∷ rest) few many = absurd (omega arith)
+numbers_of_chunks (suc k) [] few many = absurd (omega arith)
+numbers_of_chunks (suc k) (h ∷ []) few many = absurd (omega arith)
+numbers_of_chunks (suc k) (h ∷ l ∷ rest) few many = ap (λ ns. pair h l ∷ ns) (numbers_of_chunks k rest (omega arith) (omega arith))

@@ -1,20 +1,11 @@
 -- One call after the other: what is written, and what stays.
 use Rattle.std.proofs.Common.{◌≡◌, ℕ, ◌+◌, ◌-◌, ◌<◌, ◌≤◌, List, [], ◌++◌, length, take, drop, Some, sym, ap, ◌∙◌, subst, arith}
-use borrow.Rule.Slice.PartMut.{put_mid, post_of}
-use Rattle.std.proofs.lemmas.List.{append-nil, append_assoc, length-take, length-drop, drop-drop, drop_at, drop_all}
+use borrow.Rule.Slice.PartMut.{put_mid}
+use Rattle.std.proofs.lemmas.List.{append-nil, append_assoc, length-take, length-drop, drop-drop}
 use Rattle.std.proofs.lemmas.Slice.{take-put_mid, drop-put_mid}
 use Rattle.memory.specs.Texts.{Texts}
 use Rattle.fekhtovi.specs.Script.{Scripted, call_of}
 use Rattle.fekhtovi.specs.Replay.{held_after, room_for, left, Replays, full, goes, Replayed}
-
--- a record and a buffer fill their place
-pub filled : (place buffer head : List ℕ) → 80 ≤ length place → length buffer ≡ length place - 80
-    → head ++ post_of 0 80 (put_mid 80 (length place - 80) place buffer) ≡ head ++ buffer
-filled place buffer head long fits =
-    let front : length (take 80 place) ≡ 80 = length-take 80 place ∙ omega arith in
-    let none : drop (length place - 80) (drop 80 place) ≡ [] = drop_all (length place - 80) (drop 80 place) (let l = length-drop 80 place in omega arith) in
-    ap (λ t. head ++ t)
-    (drop_at (take 80 place) (buffer ++ drop (length place - 80) (drop 80 place)) 80 front ∙ (ap (λ t. buffer ++ t) none ∙ append-nil buffer))
 
 pub taken_length : {A : Type 0} (bytes : List A) (w k room : ℕ) → k ≡ room → room ≤ length bytes - w → length (take k (drop w bytes)) ≡ room
 taken_length bytes w k room is fits = let l = length-take k (drop w bytes) in let d = length-drop w bytes in omega arith

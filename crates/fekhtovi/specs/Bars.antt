@@ -1,7 +1,10 @@
 -- A list of rule numbers to bar.
-use Rattle.std.specs.Prelude.{◌≡◌, ℕ, Bool, false, cond, ◌||◌, List, [], ◌∷◌, None, ◌==◌}
+use Rattle.std.specs.Prelude.{ℕ, Bool, false, cond, ◌||◌, List, [], ◌∷◌, None, Ok, Err, Result, ◌==◌}
 use Rattle.grammar.specs.Meaning.{Meaning}
-use Rattle.grammar.specs.Barred.{is_barred}
+use Rattle.grammar.specs.declared.barred.BarRefusal.{BarRefusal}
+use Rattle.grammar.specs.declared.barred.BarRefusal.TheVariants.{NumberTooLarge}
+use Rattle.grammar.specs.Barred.{can_bar}
+use Rattle.packed.specs.Check.{every}
 
 abbrev pub is_in : ℕ → List ℕ → Bool
 is_in n [] = false
@@ -16,6 +19,6 @@ without_rules bars m = record {
   rule = λ n. cond (is_in n bars) None (m.rule n);
 }
 
--- afterwards just those are barred that were, and those in the list
-abbrev pub BarsAll : List ℕ → List Bool → List Bool → Type 0
-BarsAll bars before after = (k : ℕ) → is_barred after k ≡ (is_barred before k || is_in k bars)
+-- may each of them be barred?
+abbrev pub bars_answer : List ℕ → Result Unit BarRefusal
+bars_answer bars = cond (every can_bar bars) (Ok tt) (Err NumberTooLarge)

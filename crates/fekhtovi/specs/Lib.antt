@@ -1,7 +1,3 @@
-pub mod Base
-pub mod Blanks
-pub mod Form
-pub mod Written
 pub mod Answer
 pub mod Bars
 pub mod Check

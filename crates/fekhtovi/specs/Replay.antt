@@ -1,43 +1,55 @@
 -- A replay: the calls of a script on one memory, and what they leave in the bytes for their answers.
-use Rattle.std.specs.Prelude.{◌≡◌, ℕ, ◌+◌, ◌<◌, ◌≤◌, min, List, [], ◌++◌, length, take, drop, Some, None, Option}
+use Rattle.std.specs.Prelude.{◌≡◌, ℕ, ◌+◌, ◌<◌, ◌≤◌, min, List, [], ◌++◌, length, take, drop, Some, None, Ok, Err, Result}
+use Rattle.std.specs.Result.{result_and}
+use Rattle.guide.specs.Written.{form_of}
 use Rattle.memory.specs.Texts.{Texts}
 use Rattle.cues.specs.declared.requests.Request.{Request}
 use Rattle.cues.specs.declared.requests.Request.TheVariants as ask
+use Rattle.cues.specs.declared.answers.Answer.{Answer}
 use Rattle.cues.specs.Calls.{Call}
-use Rattle.cues.specs.Requests.{call_of as as_call}
+use Rattle.cues.specs.Requests.{asked}
 use Rattle.cues.specs.Sheet.{answer, next, buffer_after}
 use Rattle.fekhtovi.specs.declared.answer.FekhtoviAnswer.{FekhtoviAnswer}
-use Rattle.fekhtovi.specs.Answer.{of_answer}
-use Rattle.fekhtovi.specs.Check.{chosen_meaning, guide_told, first_no, unless}
-use Rattle.fekhtovi.specs.Form.{form_of}
-use Rattle.fekhtovi.specs.Pairs.{pairs_in}
+use Rattle.fekhtovi.specs.declared.refused.Refused.{Refused}
+use Rattle.fekhtovi.specs.declared.refused.Refused.TheVariants.{Call as RefusedCall}
+use Rattle.fekhtovi.specs.Answer.{of_called, refusing}
+use Rattle.fekhtovi.specs.Check.{chosen_meaning, guide_told, may_check}
 use Rattle.fekhtovi.specs.Record.{encoded}
 use Rattle.fekhtovi.specs.Script.{Scripted, call_of}
 
--- the call on the memory, with a fetch's buffer; a load is lent 1,024 frames at most
-abbrev pub call_in : Scripted → List ℕ → Call
-call_in c buffer =
-    as_call c.head.request c.handed.text
-    (chosen_meaning c.handed.table c.head.blanks (pairs_in c.handed.bars))
+-- a request as a call on the memory, with what is handed in and a fetch's buffer; a load is lent 1,024 frames at most
+abbrev pub handing : Request → Scripted → List ℕ → Call
+handing request c buffer =
+    asked request c.handed.text
+    (chosen_meaning c.handed.table c.head.blanks c.handed.bars)
     (guide_told (form_of c.head.form) c.handed.guide) (min c.head.frames 1024) buffer
 
--- why a load is not even made; every other call is made
-abbrev pub not_made : Request → Scripted → Option FekhtoviAnswer
-not_made (ask.Load n) c = first_no c.head.form c.handed.table (pairs_in c.handed.bars)
-not_made (ask.Clear n) c = None
-not_made (ask.Fetch n) c = None
-not_made ask.Free c = None
+abbrev pub call_in : Scripted → List ℕ → Call
+call_in c buffer = handing c.head.request c buffer
+
+-- whether a load is even made, and why not; every other call is made
+abbrev pub may_load : Scripted → Result Unit Refused
+may_load c = may_check c.head.form c.handed.table c.handed.bars
+
+abbrev pub may_make : Request → Scripted → Result Unit Refused
+may_make (ask.Load n) c = may_load c
+may_make (ask.Clear n) c = Ok tt
+may_make (ask.Fetch n) c = Ok tt
+may_make ask.Free c = Ok tt
+
+abbrev pub result_of : ℕ → Texts → Scripted → List ℕ → Result Answer Refused
+result_of blocks held c buffer = result_and (may_make c.head.request c) (refusing RefusedCall (answer blocks held (call_in c buffer)))
 
 abbrev pub answer_to : ℕ → Texts → Scripted → List ℕ → FekhtoviAnswer
-answer_to blocks held c buffer = unless (not_made c.head.request c) (of_answer (answer blocks held (call_in c buffer)))
+answer_to blocks held c buffer = of_called (result_of blocks held c buffer)
 
 -- the texts that are held afterwards
-abbrev pub held_unless : Option FekhtoviAnswer → Texts → Texts → Texts
-held_unless None held held' = held'
-held_unless (Some refused) held held' = held
+abbrev pub held_if_made : Result Unit Refused → Texts → Texts → Texts
+held_if_made (Ok u) held held' = held'
+held_if_made (Err refused) held held' = held
 
 abbrev pub held_after : ℕ → Texts → Scripted → List ℕ → Texts
-held_after blocks held c buffer = held_unless (not_made c.head.request c) held (next blocks held (call_in c buffer))
+held_after blocks held c buffer = held_if_made (may_make c.head.request c) held (next blocks held (call_in c buffer))
 
 -- the bytes that a call takes of those for the answers: its record, and a fetch's buffer
 abbrev pub buffer_for : Request → ℕ → ℕ

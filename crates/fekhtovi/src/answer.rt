@@ -1,13 +1,13 @@
 // What is answered to a caller, in numbers.
 ghost use Rattle.std.specs.Prelude.{◌≡◌};
-ghost use Rattle.fekhtovi.specs.Answer.{zeros, refused_with, of_fault, of_verdict, of_check_reason, of_reason, of_answer};
+ghost use Rattle.fekhtovi.specs.Answer.{of_refused, of_accepted, of_answer};
 
-use cues::answers;
-use packed::fault::TableFault;
+use crate::refused::Refused;
+use cues::answers::{Answer, Refusal};
 use tree::verdict;
-use tree::verdict::Verdict;
+use tree::verdict::{Accepted, Reason};
 
-// Each field has one meaning, and is 0 where the answer does not have it.
+// Each field has one meaning, and is 0 where the answer does not have it. A struct of numbers, since the C interface has no enums.
 #[repr(C)]
 #[derive(Clone, Copy)]
 pub struct FekhtoviAnswer {
@@ -45,101 +45,79 @@ impl FekhtoviAnswer {
         bytes: 0,
         place: 0,
     };
+}
 
-    // A refusal that has nothing but its number.
-    pub(crate) fn refused_with(number: u8) -> FekhtoviAnswer
-        ensures { result ≡ refused_with number }
-    {
+impl From<Refused> for FekhtoviAnswer {
+    ghost from_gives = { λ refused answer. answer ≡ of_refused refused };
+
+    fn from(refused: Refused) -> FekhtoviAnswer {
+        let numbered = FekhtoviAnswer {
+            refusal: u32::from(refused.number()),
+            ..FekhtoviAnswer::ZEROS
+        };
+        match refused {
+            Refused::Form(_) | Refused::Bar(_) => numbered,
+            Refused::Table(fault) => FekhtoviAnswer {
+                rule: u32::from(fault.rule()),
+                ..numbered
+            },
+            Refused::Call(refusal) => {
+                let counted = FekhtoviAnswer {
+                    events: refusal.events(),
+                    bytes: refusal.bytes(),
+                    ..numbered
+                };
+                match refusal {
+                    Refusal::Check(
+                        verdict::Refusal {
+                            reason: Reason::GuideFault(fault),
+                            ..
+                        },
+                    ) => FekhtoviAnswer {
+                        fault: u32::from(fault.defect.number()),
+                        place: fault.place,
+                        ..counted
+                    },
+                    _ => counted,
+                }
+            }
+        }
+    }
+}
+
+// What a check accepts.
+impl From<Accepted> for FekhtoviAnswer {
+    ghost from_gives = { λ accepted answer. answer ≡ of_accepted accepted };
+
+    fn from(accepted: Accepted) -> FekhtoviAnswer {
         FekhtoviAnswer {
-            refusal: number as u32,
+            rules: accepted.rules,
+            steps: accepted.steps,
+            bytes: accepted.bytes,
             ..FekhtoviAnswer::ZEROS
         }
     }
+}
 
-    // Why a packed table is refused.
-    pub(crate) fn of_fault(fault: TableFault) -> FekhtoviAnswer
-        ensures { result ≡ of_fault fault }
-    {
-        FekhtoviAnswer {
-            refusal: fault.number() as u32,
-            rule: fault.rule() as u32,
-            ..FekhtoviAnswer::ZEROS
-        }
-    }
+// What a call on the memory answers.
+impl From<Answer> for FekhtoviAnswer {
+    ghost from_gives = { λ said answer. answer ≡ of_answer said };
 
-    fn of_check_reason(reason: verdict::Reason, events: u32, bytes: usize) -> FekhtoviAnswer
-        ensures { result ≡ of_check_reason reason events bytes }
-    {
-        let number = reason.number() as u32;
-        match reason {
-            verdict::Reason::GuideFault { defect, place } => FekhtoviAnswer {
-                refusal: number,
-                events,
-                fault: defect.number() as u32,
-                bytes,
-                place,
+    fn from(said: Answer) -> FekhtoviAnswer {
+        match said {
+            Answer::Loaded(accepted) => FekhtoviAnswer::from(accepted),
+            Answer::Cleared(number) => FekhtoviAnswer {
+                cleared: u32::from(number),
                 ..FekhtoviAnswer::ZEROS
             },
-            _ => FekhtoviAnswer {
-                refusal: number,
-                events,
+            Answer::Fetched(bytes) => FekhtoviAnswer {
                 bytes,
                 ..FekhtoviAnswer::ZEROS
             },
-        }
-    }
-
-    // What a check answers.
-    pub(crate) fn of_verdict(verdict: Verdict) -> FekhtoviAnswer
-        ensures { result ≡ of_verdict verdict }
-    {
-        match verdict {
-            Ok(accepted) => FekhtoviAnswer {
-                rules: accepted.rules,
-                steps: accepted.steps,
-                bytes: accepted.bytes,
+            Answer::Free(blocks) => FekhtoviAnswer {
+                free: u32::from(blocks),
                 ..FekhtoviAnswer::ZEROS
             },
-            Err(refusal) => FekhtoviAnswer::of_check_reason(
-                refusal.reason,
-                refusal.events,
-                refusal.bytes,
-            ),
-        }
-    }
-
-    fn of_reason(reason: answers::Reason, events: u32, bytes: usize) -> FekhtoviAnswer
-        ensures { result ≡ of_reason reason events bytes }
-    {
-        match reason {
-            answers::Reason::Check(why) => FekhtoviAnswer::of_check_reason(why, events, bytes),
-            _ => FekhtoviAnswer::refused_with(reason.number()),
-        }
-    }
-
-    // What a call on the memory answers.
-    pub(crate) fn of_answer(answer: answers::Answer) -> FekhtoviAnswer
-        ensures { result ≡ of_answer answer }
-    {
-        match answer {
-            answers::Answer::Loaded(accepted) => FekhtoviAnswer::of_verdict(Ok(accepted)),
-            answers::Answer::Cleared(number) => FekhtoviAnswer {
-                cleared: number as u32,
-                ..FekhtoviAnswer::ZEROS
-            },
-            answers::Answer::Fetched(length) => FekhtoviAnswer {
-                bytes: length,
-                ..FekhtoviAnswer::ZEROS
-            },
-            answers::Answer::Free(blocks) => FekhtoviAnswer {
-                free: blocks as u32,
-                ..FekhtoviAnswer::ZEROS
-            },
-            answers::Answer::Refused(refusal) => FekhtoviAnswer::of_reason(
-                refusal.reason,
-                refusal.events,
-                refusal.bytes,
-            ),
         }
     }
 }

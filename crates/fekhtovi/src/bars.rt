@@ -1,39 +1,25 @@
 // Rule numbers to bar.
-ghost use Rattle.std.specs.Prelude.{◌≡◌, true};
-ghost use Rattle.packed.specs.Check.{every};
-ghost use Rattle.grammar.specs.Barred.{can_bar};
-ghost use Rattle.fekhtovi.specs.Bars.{BarsAll};
-ghost use Rattle.fekhtovi.specs.Pairs.{pairs_in};
+ghost use Rattle.std.specs.Prelude.{◌≡◌, ℕ, List, IfOk};
+ghost use Rattle.std.specs.Iterator.{AlwaysYields, IsFinite};
+ghost use Rattle.fekhtovi.specs.Bars.{without_rules, bars_answer};
+ghost use Rattle.fekhtovi.specs.Answer.{answered};
 
 use grammar::Grammar;
-use grammar::barred::Barred;
+use grammar::barred::{BarRefusal, Barred};
 
-// Bars every number of a list; false where one of them cannot be barred.
-pub(crate) fn bar_all<B: Grammar>(grammar: &mut Barred<B>, bars: &[u16]) -> bool
-    ensures answer { result ≡ every can_bar bars.now }
-    ensures below { grammar.new.below ≡ grammar.old.below }
-    ensures barred { result ≡ true → BarsAll bars.now grammar.old.set.flags grammar.new.set.flags }
+// The grammar below with a gap at each of the numbers, or the refusal of the first that cannot be barred.
+pub(crate) fn without<B: Grammar + Copy, I: Iterator<Item = u16> + Drop>(
+    below: B,
+    bars: I,
+) -> Result<Barred<B>, BarRefusal>
+    requires can { I.can_next bars }
+    requires ends { IsFinite (I.remaining bars) }
+    ensures answer { (listed : List ℕ) → AlwaysYields I.next_gives (λ n. n) bars listed → answered result ≡ bars_answer listed }
+    ensures barred { (listed : List ℕ) → AlwaysYields I.next_gives (λ n. n) bars listed → IfOk result (λ g. ⟦<Barred<B> as Grammar>⟧.meaning g ≡ without_rules listed (B.Grammar.meaning below)) }
 {
-    for bar in bars {
-        if grammar.bar(*bar).is_err() {
-            return false;
-        }
+    let mut barred = Barred::new(below);
+    for rule in bars {
+        barred.bar(rule)?;
     }
-    true
-}
-
-// The same for numbers that stand as pairs of bytes, the higher first.
-pub(crate) fn bar_pairs<B: Grammar>(grammar: &mut Barred<B>, bars: &[u8]) -> bool
-    ensures answer { result ≡ every can_bar (pairs_in bars.now) }
-    ensures below { grammar.new.below ≡ grammar.old.below }
-    ensures barred { result ≡ true → BarsAll (pairs_in bars.now) grammar.old.set.flags grammar.new.set.flags }
-{
-    let mut rest = bars;
-    while let [high, low, behind @ ..] = rest {
-        if grammar.bar(u16::from_be_bytes([*high, *low])).is_err() {
-            return false;
-        }
-        rest = behind;
-    }
-    true
+    Ok(barred)
 }

@@ -3,37 +3,71 @@
 
 ghost use Rattle.std.specs.Prelude.{◌≡◌, length};
 ghost use Rattle.memory.specs.Texts.{no_texts};
-ghost use Rattle.fekhtovi.specs.Check.{check_answer};
+ghost use Rattle.tree.specs.Check.{depth_limit, verdict};
+ghost use Rattle.fekhtovi.specs.Check.{check_result, check_answer};
 ghost use Rattle.fekhtovi.specs.Replay.{Replayed};
 
 use answer::FekhtoviAnswer;
-use bars::bar_all;
-use base::Base;
-use blanks::Blanks;
-use grammar::barred::Barred;
+use bars::without;
+use chosen::opened;
+use grammar::Grammar;
+use grammar::blanks::Blanks;
+use grammar::either::Either;
+use guide::Guide;
+use guide::written::Written;
 use memory::blocks::Blocks;
+use packed::base::Base;
+use refused::Refused;
 use replay::replay_on;
+use tree::verdict::{Accepted, Verdict};
 use walk::check;
 use walk::state::Frame;
-use written::Written;
-use written::form::Form;
 
 pub mod answer;
 mod bars;
-mod base;
-mod blanks;
+mod chosen;
 mod record;
+mod refused;
 mod replay;
 mod script;
-mod written;
 
-// The refusals of numbers that a caller hands in: a rule number that cannot be barred, and a form that there is not.
-const BAR_TOO_LARGE: u8 = 56;
+// Checks a guide against a base without layers. That is the common case, and has a check of its own for each of the two.
+fn check_plain(
+    base: &Base<'_>,
+    guide: &mut Written<'_>,
+    text: &[u8],
+    frames: &mut [Frame],
+) -> Verdict
+    ensures { result ≡ verdict (⟦<Base<'static> as Grammar>⟧.meaning base.now) (depth_limit (length frames.old)) text.now (⟦<Written<'static> as Guide>⟧.told guide.old) }
+{
+    match base {
+        Either::First(house) => check(house, guide, text, frames),
+        Either::Second(table) => check(table, guide, text, frames),
+    }
+}
 
-const UNKNOWN_FORM: u8 = 255;
+fn checked(
+    table: &[u8],
+    blanks: u8,
+    bars: &[u16],
+    text: &[u8],
+    form: u8,
+    guide: &[u8],
+    frames: &mut [Frame],
+) -> Result<Accepted, Refused>
+    ensures { result ≡ check_result table.now blanks bars.now text.now form guide.now (length frames.old) }
+{
+    let (base, mut guide) = opened(form, guide, table)?;
+    if blanks == 0 && bars.is_empty() {
+        return check_plain(&base, &mut guide, text, frames).map_err(Refused::from);
+    }
+    let chosen = without(Blanks::new(base, blanks != 0), bars.iter().copied())?;
+    check(&chosen, &mut guide, text, frames).map_err(Refused::from)
+}
 
 // Checks a guide against a grammar and a text. A table of no bytes stands for the house grammar; blanks are let in unless the number is
-// 0; form 1 is a listing and 2 a link table. What the frames hold before makes no difference.
+// 0; form 1 is a listing and 2 a link table. What the frames hold before makes no difference. Flag and form are numbers, since nothing
+// holds a caller in C to a bool or an enum.
 #[unsafe(no_mangle)]
 pub extern "C" fn fekhtovi_check(
     table: &[u8],
@@ -46,22 +80,10 @@ pub extern "C" fn fekhtovi_check(
 ) -> FekhtoviAnswer
     ensures { result ≡ check_answer table.now blanks bars.now text.now form guide.now (length frames.old) }
 {
-    let Some(form) = Form::numbered(form) else {
-        return FekhtoviAnswer::refused_with(UNKNOWN_FORM);
-    };
-    let (base, opened) = Base::open(table);
-    if let Err(fault) = opened {
-        return FekhtoviAnswer::of_fault(fault);
-    }
-    let mut guide = Written::new(form, guide);
-    if blanks == 0 && bars.is_empty() {
-        return FekhtoviAnswer::of_verdict(base.check(&mut guide, text, frames));
-    }
-    let mut grammar = Barred::new(Blanks::new(base, blanks != 0));
-    if !bar_all(&mut grammar, bars) {
-        return FekhtoviAnswer::refused_with(BAR_TOO_LARGE);
-    }
-    FekhtoviAnswer::of_verdict(check(&grammar, &mut guide, text, frames))
+    checked(table, blanks, bars, text, form, guide, frames).map_or_else(
+        FekhtoviAnswer::from,
+        FekhtoviAnswer::from,
+    )
 }
 
 // Replays a script of calls on one memory, which holds nothing at first, and writes the answers. It stops at the end of the script, at a

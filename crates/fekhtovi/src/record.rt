@@ -25,13 +25,15 @@ fn numbers(answer: FekhtoviAnswer) -> [u64; 10]
     ]
 }
 
-// Writes numbers into bytes, eight for each.
+// Writes numbers into bytes, eight for each. No loop over chunks: std says nothing of what a slice ends as whose chunks are lent so.
 fn put(numbers: &[u64], bytes: &mut [u8])
     requires { length bytes.old ≡ 8 * length numbers.now }
     ensures { bytes.new ≡ all_bytes numbers.now }
 {
-    for i in 0..numbers.len() {
-        bytes[8 * i..8 * i + 8].copy_from_slice(&numbers[i].to_be_bytes());
+    if let [number, others @ ..] = numbers {
+        let (eight, behind) = bytes.split_at_mut(8);
+        eight.copy_from_slice(&number.to_be_bytes());
+        put(others, behind);
     }
 }
 

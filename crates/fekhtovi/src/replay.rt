@@ -1,68 +1,52 @@
 // The calls of a script, one by one on one memory.
-ghost use Rattle.std.specs.Prelude.{◌≡◌, ◌+◌, min, length, drop};
-ghost use Rattle.cues.specs.Calls.{load as load_call, loading};
+ghost use Rattle.std.specs.Prelude.{◌≡◌, ◌+◌, [], length, drop};
+ghost use Rattle.std.specs.Result.{result_and};
 ghost use Rattle.cues.specs.Sheet.{answer, next, buffer_after};
-ghost use Rattle.fekhtovi.specs.Answer.{of_answer};
-ghost use Rattle.fekhtovi.specs.Check.{chosen_meaning, guide_told, first_no, unless};
-ghost use Rattle.fekhtovi.specs.Form.{form_of};
-ghost use Rattle.fekhtovi.specs.Pairs.{pairs_in};
-ghost use Rattle.fekhtovi.specs.Replay.{call_in, answer_to, buffer_for, held_unless, held_after, room_for, left, Replayed};
+ghost use Rattle.fekhtovi.specs.declared.refused.Refused.TheVariants.{Call as RefusedCall};
+ghost use Rattle.fekhtovi.specs.Answer.{refusing};
+ghost use Rattle.fekhtovi.specs.Replay.{handing, may_load, call_in, result_of, answer_to, buffer_for, held_if_made, held_after, room_for, left, Replayed};
 ghost use Rattle.fekhtovi.specs.Script.{scripted_in};
 
 use crate::answer::FekhtoviAnswer;
-use crate::bars::bar_pairs;
-use crate::base::Base;
-use crate::blanks::Blanks;
+use crate::bars::without;
+use crate::chosen::opened;
 use crate::record::{RECORD, write_record};
-use crate::script::{Call, Fields, Head, first_call};
-use crate::written::Written;
-use crate::written::form::Form;
-use crate::{BAR_TOO_LARGE, UNKNOWN_FORM};
-use cues::requests::{Request, perform};
-use grammar::barred::Barred;
+use crate::refused::Refused;
+use crate::script::{Call, Calls, Head};
+use cues::answers::Answer;
+use cues::requests::{Lent, Request, perform};
+use grammar::blanks::Blanks;
+use grammar::house::House;
+use guide::written::{Form, Written};
 use memory::Memory;
 use walk::state::Frame;
 
 // The frames that count.
 const FRAMES: usize = 1_024;
 
-const NOTHING: [u8; 0] = [];
-
-// Loads what a call hands in.
+// Loads what a call hands in under a cue number.
 fn load<M: Memory>(
     memory: &mut M,
     number: u16,
-    head: Head,
-    fields: Fields<'_>,
-    frames: &mut [Frame],
-) -> FekhtoviAnswer
-    requires { length frames.old ≡ 1024 }
-    ensures answers { result ≡ unless (first_no head.form fields.entry.table.now (pairs_in fields.entry.bars.now)) (of_answer (answer M.Memory.block_count (M.Memory.texts memory.old) (load_call (loading number fields.entry.text.now (chosen_meaning fields.entry.table.now head.blanks (pairs_in fields.entry.bars.now)) (guide_told (form_of head.form) fields.entry.guide.now) (min head.frames 1024))))) }
-    ensures texts { M.Memory.texts memory.new ≡ held_unless (first_no head.form fields.entry.table.now (pairs_in fields.entry.bars.now)) (M.Memory.texts memory.old) (next M.Memory.block_count (M.Memory.texts memory.old) (load_call (loading number fields.entry.text.now (chosen_meaning fields.entry.table.now head.blanks (pairs_in fields.entry.bars.now)) (guide_told (form_of head.form) fields.entry.guide.now) (min head.frames 1024)))) }
+    call: Call<'_>,
+    frames: &mut [Frame; FRAMES],
+) -> Result<Answer, Refused>
+    ensures answers { let c = scripted_in call.entry in result ≡ result_and (may_load c) (refusing RefusedCall (answer M.Memory.block_count (M.Memory.texts memory.old) (handing (Request.Load number) c []))) }
+    ensures texts { let c = scripted_in call.entry in M.Memory.texts memory.new ≡ held_if_made (may_load c) (M.Memory.texts memory.old) (next M.Memory.block_count (M.Memory.texts memory.old) (handing (Request.Load number) c [])) }
 {
-    let Some(form) = Form::numbered(head.form) else {
-        return FekhtoviAnswer::refused_with(UNKNOWN_FORM);
+    let Call { head, fields } = call;
+    let (base, mut guide) = opened(head.form, fields.guide, fields.table)?;
+    let bars = fields.bars.iter().map(|pair| u16::from_be_bytes(*pair));
+    let chosen = without(Blanks::new(base, head.blanks != 0), bars)?;
+    let count = usize::from(head.frames).min(FRAMES);
+    let mut lent = Lent {
+        text: fields.text,
+        grammar: &chosen,
+        guide: &mut guide,
+        frames: &mut frames[0..count],
+        buffer: &mut [],
     };
-    let (base, opened) = Base::open(fields.table);
-    if let Err(fault) = opened {
-        return FekhtoviAnswer::of_fault(fault);
-    }
-    let mut grammar = Barred::new(Blanks::new(base, head.blanks != 0));
-    if !bar_pairs(&mut grammar, fields.bars) {
-        return FekhtoviAnswer::refused_with(BAR_TOO_LARGE);
-    }
-    let mut guide = Written::new(form, fields.guide);
-    let lent = (head.frames as usize).min(FRAMES);
-    let mut nowhere = NOTHING;
-    FekhtoviAnswer::of_answer(perform(
-        memory,
-        Request::Load(number),
-        fields.text,
-        &grammar,
-        &mut guide,
-        &mut frames[0..lent],
-        &mut nowhere,
-    ))
+    perform(memory, Request::Load(number), &mut lent).map_err(Refused::from)
 }
 
 // The bytes that a call takes of those for the answers: its record, and a fetch's buffer.
@@ -70,68 +54,64 @@ fn room_for(head: Head) -> usize
     ensures { result ≡ 80 + buffer_for head.request head.buffer }
 {
     match head.request {
-        Request::Fetch(_) => RECORD + head.buffer as usize,
+        Request::Fetch(_) => RECORD + usize::from(head.buffer),
         _ => RECORD,
     }
 }
 
-// The grammar of the calls that read none.
-type Chosen<'a> = Barred<Blanks<Base<'a>>>;
-
-// Makes one call, with a fetch's buffer.
+// Makes one call, with a fetch's buffer. A call that is no load reads no grammar and no guide, and is lent what is at hand.
 fn make<M: Memory>(
     memory: &mut M,
     call: Call<'_>,
-    idle: &Chosen<'_>,
-    frames: &mut [Frame],
+    frames: &mut [Frame; FRAMES],
     buffer: &mut [u8],
-) -> FekhtoviAnswer
-    requires { length frames.old ≡ 1024 }
-    ensures answers { result ≡ answer_to M.Memory.block_count (M.Memory.texts memory.old) (scripted_in call.entry) buffer.old }
+) -> Result<Answer, Refused>
+    ensures answers { result ≡ result_of M.Memory.block_count (M.Memory.texts memory.old) (scripted_in call.entry) buffer.old }
     ensures texts { M.Memory.texts memory.new ≡ held_after M.Memory.block_count (M.Memory.texts memory.old) (scripted_in call.entry) buffer.old }
     ensures copy { buffer.new ≡ buffer_after (M.Memory.texts memory.old) (call_in (scripted_in call.entry) buffer.old) buffer.old }
 {
     if let Request::Load(number) = call.head.request {
-        return load(memory, number, call.head, call.fields, frames);
+        return load(memory, number, call, frames);
     }
-    let mut guide = Written::new(Form::Lines, &NOTHING);
-    FekhtoviAnswer::of_answer(perform(
-        memory,
-        call.head.request,
-        &NOTHING,
-        idle,
-        &mut guide,
+    let mut guide = Written::new(Form::Listing, call.fields.guide);
+    let mut lent = Lent {
+        text: call.fields.text,
+        grammar: &House,
+        guide: &mut guide,
         frames,
         buffer,
-    ))
+    };
+    perform(memory, call.head.request, &mut lent).map_err(Refused::from)
 }
 
 // Makes one call, and leaves its record and a fetch's buffer in its place of the answers.
 fn make_into<M: Memory>(
     memory: &mut M,
     call: Call<'_>,
-    idle: &Chosen<'_>,
-    frames: &mut [Frame],
+    frames: &mut [Frame; FRAMES],
     place: &mut [u8],
 )
-    requires { (length frames.old ≡ 1024) × (length place.old ≡ room_for (scripted_in call)) }
+    requires { length place.old ≡ room_for (scripted_in call) }
     ensures left { place.new ≡ left M.Memory.block_count (M.Memory.texts memory.old) (scripted_in call.entry) place.old }
     ensures texts { M.Memory.texts memory.new ≡ held_after M.Memory.block_count (M.Memory.texts memory.old) (scripted_in call.entry) (drop 80 place.old) }
 {
-    let answer = make(memory, call, idle, frames, &mut place[RECORD..]);
-    write_record(answer, &mut place[0..RECORD]);
+    let (record, buffer) = place.split_at_mut(RECORD);
+    let answer = make(memory, call, frames, buffer).map_or_else(
+        FekhtoviAnswer::from,
+        FekhtoviAnswer::from,
+    );
+    write_record(answer, record);
 }
 
 // Makes the calls of a script, until it ends or the answers are full, and says how many bytes of answers were written.
 pub(crate) fn replay_on<M: Memory>(memory: &mut M, script: &[u8], answers: &mut [u8]) -> usize
     ensures { Replayed M.Memory.block_count (M.Memory.texts memory.old) script.now answers.old result answers.new }
 {
-    let (house, _) = Base::open(&NOTHING);
-    let idle = Barred::new(Blanks::new(house, false));
     let mut frames = [Frame::BLANK; FRAMES];
-    let mut rest = script;
+    // Counted: of a slice that shrinks at each turn a proof does not know what was written before.
     let mut written = 0;
-    while let Some((call, behind)) = first_call(rest) {
+    let calls = Calls { rest: script };
+    for call in calls {
         let room = room_for(call.head);
         if room > answers.len() - written {
             return written;
@@ -139,12 +119,10 @@ pub(crate) fn replay_on<M: Memory>(memory: &mut M, script: &[u8], answers: &mut 
         make_into(
             memory,
             call,
-            &idle,
             &mut frames,
             &mut answers[written..written + room],
         );
         written += room;
-        rest = behind;
     }
     written
 }

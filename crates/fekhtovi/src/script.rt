@@ -1,10 +1,11 @@
 // The calls of a script.
-ghost use Rattle.std.specs.Prelude.{◌≡◌};
-ghost use Rattle.fekhtovi.specs.Script.{request_of, HeadRead, FieldRead, FieldsRead, CallRead};
+ghost use Rattle.std.specs.Prelude.{◌≡◌, ◌<◌, length, IfSome};
+ghost use Rattle.fekhtovi.specs.Script.{request_of, head_of, field_of, fields_of, call_of, ReadAs, GivesCall, handed_in, scripted_in};
+ghost use Rattle.std.specs.Iterator.{at_most};
 
 use cues::requests::Request;
 
-// What is asked, by numbers alone.
+// What is asked. The form and the blanks stay the numbers that they are in C, since only a load asks whether they are lawful.
 #[derive(Clone, Copy)]
 pub struct Head {
     pub(crate) request: Request,
@@ -14,11 +15,11 @@ pub struct Head {
     pub(crate) buffer: u16,
 }
 
-// What a load is handed.
+// What a load is handed. Each rule number to bar is a pair of bytes.
 #[derive(Clone, Copy)]
 pub struct Fields<'a> {
     pub(crate) table: &'a [u8],
-    pub(crate) bars: &'a [u8],
+    pub(crate) bars: &'a [[u8; 2]],
     pub(crate) text: &'a [u8],
     pub(crate) guide: &'a [u8],
 }
@@ -29,7 +30,7 @@ pub struct Call<'a> {
     pub(crate) fields: Fields<'a>,
 }
 
-// The request with a kind and a cue number.
+// The request with a kind and a cue number. No TryFrom: both the numbers and `Request` belong to other crates.
 fn request_of(kind: u8, number: u16) -> Option<Request>
     ensures { result ≡ request_of kind number }
 {
@@ -44,7 +45,8 @@ fn request_of(kind: u8, number: u16) -> Option<Request>
 
 // The head that a script begins with, and what is behind it.
 fn first_head(script: &[u8]) -> Option<(Head, &[u8])>
-    ensures { HeadRead script.now result }
+    ensures read { ReadAs (λ head. head) (head_of script.now) result }
+    ensures shorter { IfSome result (λ p. length p.1.now < length script.now) }
 {
     let [kind, form, blanks, n1, n0, f1, f0, b1, b0, rest @ ..] = script else {
         return None;
@@ -62,27 +64,23 @@ fn first_head(script: &[u8]) -> Option<(Head, &[u8])>
 
 // A field's bytes, whose number stands in two bytes before them, and what is behind the field; None where they are not all there.
 fn first_field(bytes: &[u8]) -> Option<(&[u8], &[u8])>
-    ensures { FieldRead bytes.now result }
+    ensures read { ReadAs (λ field. field.now) (field_of bytes.now) result }
+    ensures shorter { IfSome result (λ p. length p.1.now < length bytes.now) }
 {
-    let [high, low, rest @ ..] = bytes else {
-        return None;
-    };
-    let length = u16::from_be_bytes([*high, *low]) as usize;
-    if length > rest.len() {
-        return None;
-    }
-    Some((&rest[0..length], &rest[length..]))
+    let (length, rest) = bytes.split_first_chunk()?;
+    rest.split_at_checked(usize::from(u16::from_be_bytes(*length)))
 }
 
-// The four fields of a call. The rule numbers to bar are pairs of bytes, so these are even in number.
+// The four fields of a call. None where a byte of the rule numbers to bar has no second one.
 fn first_fields(bytes: &[u8]) -> Option<(Fields<'_>, &[u8])>
-    ensures { FieldsRead bytes.now result }
+    ensures read { ReadAs handed_in (fields_of bytes.now) result }
+    ensures shorter { IfSome result (λ p. length p.1.now < length bytes.now) }
 {
     let (table, rest) = first_field(bytes)?;
     let (bars, rest) = first_field(rest)?;
-    if bars.len() % 2 != 0 {
+    let (bars, []) = bars.as_chunks() else {
         return None;
-    }
+    };
     let (text, rest) = first_field(rest)?;
     let (guide, rest) = first_field(rest)?;
     let fields = Fields {
@@ -95,10 +93,31 @@ fn first_fields(bytes: &[u8]) -> Option<(Fields<'_>, &[u8])>
 }
 
 // The first call of a script, and the rest of the script; None where no whole call stands.
-pub(crate) fn first_call(script: &[u8]) -> Option<(Call<'_>, &[u8])>
-    ensures { CallRead script.now result }
+fn first_call(script: &[u8]) -> Option<(Call<'_>, &[u8])>
+    ensures read { ReadAs scripted_in (call_of script.now) result }
+    ensures shorter { IfSome result (λ p. length p.1.now < length script.now) }
 {
     let (head, rest) = first_head(script)?;
     let (fields, rest) = first_fields(rest)?;
     Some((Call { head, fields }, rest))
+}
+
+// The calls of a script in their order, up to where no whole call stands.
+#[derive(Drop)]
+pub(crate) struct Calls<'a> {
+    pub(crate) rest: &'a [u8],
+}
+
+impl<'a> Iterator for Calls<'a> {
+    type Item = Call<'a>;
+
+    ghost next_gives = { λ before call after. GivesCall before.rest.now call after.rest.now };
+
+    ghost remaining = { λ calls. at_most (length calls.rest.now) };
+
+    fn next(&mut self) -> Option<Call<'a>> {
+        let (call, rest) = first_call(self.rest)?;
+        self.rest = rest;
+        Some(call)
+    }
 }

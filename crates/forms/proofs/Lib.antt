@@ -1,4 +1,3 @@
-mod Clashes
 mod Numbers
 mod Listings
 mod Records

@@ -1,135 +1,88 @@
 -- A tree's own link table tells its walk, and a table that tells the walk is the tree's own.
-use Rattle.std.proofs.Common.{◌≡◌, ℕ, zero, suc, ◌+◌, ◌%◌, ◌<◌, ◌≤◌, Bool, true, false, cond, ◌&&◌, eqb, ltb, leb, List, [], ◌∷◌, ◌++◌, length, sym, refl, ap, ◌∙◌, append_assoc, append-nil, add-zero, arith}
-use Rattle.std.proofs.lemmas.Bool.{cond-true, eqb-true, eq-eqb, lt-ltb}
+use Rattle.std.proofs.Common.{◌≡◌, ℕ, ◌+◌, ◌%◌, ◌<◌, ◌≤◌, Bool, true, cond, ◌&&◌, eqb, leb, List, [], ◌∷◌, ◌++◌, length, Ok, sym, refl, ap, ◌∙◌, append_assoc, append-nil, add-zero, arith}
+use Rattle.std.proofs.lemmas.Bool.{lt-ltb}
 use Rattle.std.proofs.lemmas.Bool.Decides.{nat_tests as splits}
-use Rattle.guide.specs.declared.Defect.{Defect}
-use Rattle.guide.specs.declared.Defect.TheVariants.{TableLength, BadLink, TooManyOpen}
+use Rattle.guide.specs.declared.Defect.TheVariants.{TableLength, BadLink}
 use Rattle.guide.specs.declared.Event.{Event}
 use Rattle.guide.specs.declared.Event.TheVariants.{Enter, Byte, Leave}
-use Rattle.guide.specs.declared.Finish.TheVariants.{End}
-use Rattle.guide.specs.declared.records.Record.{Record}
-use Rattle.guide.specs.declared.records.Record.TheVariants.{Rule, Leaf, Malformed}
-use Rattle.guide.specs.LinkTable.{records, fault_at, ask, reading, follow, begin, link_table}
-use Rattle.guide.specs.Told.{Told, finally, ◌and◌, ahead, tells}
+use Rattle.guide.specs.declared.records.Record.TheVariants.{Rule, Leaf}
+use Rattle.guide.specs.LinkTable.{Entry, records, fault_at, reading, follow, begin, link_table}
+use Rattle.guide.specs.Told.{End, Told, finally, ◌and◌, ahead, tells}
 use Rattle.tree.specs.Tree.{Tree, leaf, node, Children, no_more, ◌then◌, walk, walk_all, depth, depth_all}
+use Rattle.tree.proofs.Walks.{ahead_append}
 use Rattle.forms.specs.Laws.{Means, LinkTableAsWritten}
 use Rattle.forms.specs.Writable.{nodes, nodes_all}
 use Rattle.forms.specs.Writing.{first_link, link_table_of}
-use Rattle.forms.proofs.Clashes.{finish_event, fault_end, enter_leave, byte_leave, enter_byte, same_event, same_rest}
 use Rattle.forms.proofs.Records.{records_of, records_all, TableOf, table_back, table_of}
 
-ahead_append : (xs ys : List Event) (g : Told) → ahead (xs ++ ys) g ≡ ahead xs (ahead ys g)
-ahead_append [] ys g = refl
-ahead_append (x ∷ xs) ys g = ap (λ l. x and l) (ahead_append xs ys g)
-
 -- From the walk back to the records.
--- an event is told only where the question was answered yes
-asked : (b : Bool) (d : Defect) (n : ℕ) (g : Told) (e : Event) (k : Told) → ask b d n g ≡ e and k → (b ≡ true) × (g ≡ e and k)
-asked true d n g e k h = (refl, h)
-asked false d n g e k h = absurd (finish_event h)
-
--- and so is the end
-asked_end : (b : Bool) (d : Defect) (n : ℕ) (g : Told) → ask b d n g ≡ finally End → g ≡ finally End
-asked_end true d n g h = h
-asked_end false d n g h = absurd (fault_end h)
-
 module _ (n : ℕ) (opened : List ℕ) (go : ℕ → List ℕ → Told) where
-  -- a record that tells an enter, a byte, a leave or the end
-  enter_read : (r : Record) (x : ℕ) (g : Told) → reading n r opened go ≡ Enter x and g
-      → (child : ℕ) × (sibling : ℕ) × (r ≡ Rule x child sibling) × (go child (sibling ∷ opened) ≡ g)
-  enter_read (Rule v c s) x g h =
-      let q = (asked (ltb (length opened) 256) TooManyOpen n (Enter v and go c (s ∷ opened)) (Enter x) g h).1 in
-      let e = same_event q in (c, s, cc, same_rest q)
-  enter_read (Leaf b s) x g h = absurd (enter_byte (sym (same_event h)))
-  enter_read Malformed x g h = absurd (finish_event h)
+  -- an entry that tells an enter, a byte, a leave or the end
+  enter_read : (r : Entry) (x : ℕ) (g : Told) → reading n r opened go ≡ Enter x and g
+      → (child : ℕ) × (sibling : ℕ) × (r ≡ Ok (Rule x child sibling)) × (go child (sibling ∷ opened) ≡ g)
+  enter_read r x g h = grind arith
 
-  byte_read : (r : Record) (b : ℕ) (g : Told) → reading n r opened go ≡ Byte b and g → (sibling : ℕ) × (r ≡ Leaf b sibling) × (go sibling opened ≡ g)
-  byte_read (Rule v c s) b g h =
-      let q = (asked (ltb (length opened) 256) TooManyOpen n (Enter v and go c (s ∷ opened)) (Byte b) g h).1 in absurd (enter_byte (same_event q))
-  byte_read (Leaf x s) b g h = let e = same_event h in (s, cc, same_rest h)
-  byte_read Malformed b g h = absurd (finish_event h)
+  byte_read : (r : Entry) (b : ℕ) (g : Told) → reading n r opened go ≡ Byte b and g → (sibling : ℕ) × (r ≡ Ok (Leaf b sibling)) × (go sibling opened ≡ g)
+  byte_read r b g h = grind arith
 
-  leave_unread : (r : Record) (g : Told) → reading n r opened go ≡ Leave and g → ⊥
-  leave_unread (Rule v c s) g h =
-      enter_leave (same_event (asked (ltb (length opened) 256) TooManyOpen n (Enter v and go c (s ∷ opened)) Leave g h).1)
-  leave_unread (Leaf b s) g h = byte_leave (same_event h)
-  leave_unread Malformed g h = finish_event h
+  leave_unread : (r : Entry) (g : Told) → reading n r opened go ≡ Leave and g → ⊥
+  leave_unread r g h = grind arith
 
-  end_unread : (r : Record) → reading n r opened go ≡ finally End → ⊥
-  end_unread (Rule v c s) h =
-      finish_event (sym (asked_end (ltb (length opened) 256) TooManyOpen n (Enter v and go c (s ∷ opened)) h))
-  end_unread (Leaf b s) h = finish_event (sym h)
-  end_unread Malformed h = fault_end h
+  end_unread : (r : Entry) → reading n r opened go ≡ finally End → ⊥
+  end_unread r h = grind arith
 
 -- the link that is followed to another event than a leave names the next record
-record Followed (n : ℕ) (rs : List Record) (link : ℕ) (opened : List ℕ) (e : Event) (g : Told) : Type 0 where
-  first : Record
-  rest : List Record
+record Followed (n : ℕ) (rs : List Entry) (link : ℕ) (opened : List ℕ) (e : Event) (g : Told) : Type 0 where
+  first : Entry
+  rest : List Entry
   here : link ≡ n
   parts : rs ≡ first ∷ rest
   goes : reading n first opened (follow (n + 1) rest) ≡ e and g
 
-followed : (n : ℕ) (rs : List Record) (link : ℕ) (opened : List ℕ) (e : Event) (g : Told) → (e ≡ Leave → ⊥)
+followed : (n : ℕ) (rs : List Entry) (link : ℕ) (opened : List ℕ) (e : Event) (g : Told) → (e ≡ Leave → ⊥)
     → follow n rs link opened ≡ e and g → Followed n rs link opened e g
-followed n [] zero [] e g ne h = absurd (finish_event h)
-followed n (r ∷ rs) zero [] e g ne h = absurd (finish_event h)
-followed n rs zero (s ∷ opened) e g ne h = absurd (ne (sym (same_event h)))
-followed n [] (suc k) opened e g ne h = absurd (finish_event h)
-followed n (r ∷ rs) (suc k) opened e g ne h =
-    let p = asked (eqb (suc k) n) BadLink n _ e g h in record { first = r; rest = rs; here = eqb-true _ _ p.0; parts = refl; goes = p.1 }
+followed n rs link opened e g ne h = grind arith
 
 -- a leave is told where there is no link
-left : (n : ℕ) (rs : List Record) (link s : ℕ) (opened : List ℕ) (g : Told) → follow n rs link (s ∷ opened) ≡ Leave and g
+left : (n : ℕ) (rs : List Entry) (link s : ℕ) (opened : List ℕ) (g : Told) → follow n rs link (s ∷ opened) ≡ Leave and g
     → (link ≡ 0) × (follow n rs s opened ≡ g)
-left n rs zero s opened g h = (refl, same_rest h)
-left n [] (suc k) s opened g h = absurd (finish_event h)
-left n (r ∷ rs) (suc k) s opened g h =
-    absurd (leave_unread n (s ∷ opened) (follow (n + 1) rs) r g (asked (eqb (suc k) n) BadLink n _ Leave g h).1)
+left n rs link s opened g h = grind (arith, leave_unread)
 
 -- and the end, where no record is left too
-finished : (n : ℕ) (rs : List Record) (link : ℕ) → follow n rs link [] ≡ finally End → (link ≡ 0) × (rs ≡ [])
-finished n [] zero h = (refl, refl)
-finished n (r ∷ rs) zero h = absurd (fault_end h)
-finished n [] (suc k) h = absurd (fault_end h)
-finished n (r ∷ rs) (suc k) h =
-    absurd (end_unread n [] (follow (n + 1) rs) r (asked_end (eqb (suc k) n) BadLink n (reading n r [] (follow (n + 1) rs)) h))
+finished : (n : ℕ) (rs : List Entry) (link : ℕ) → follow n rs link [] ≡ finally End → (link ≡ 0) × (rs ≡ [])
+finished n rs link h = grind (arith, end_unread)
 
 -- the walk of a tree was told by the tree's own records
-record Read (t : Tree) (n : ℕ) (rs : List Record) (opened : List ℕ) (g : Told) : Type 0 where
+record Read (t : Tree) (n : ℕ) (rs : List Entry) (opened : List ℕ) (g : Told) : Type 0 where
   sibling : ℕ
-  rest : List Record
+  rest : List Entry
   same : rs ≡ records_of n sibling t ++ rest
   goes : follow (n + nodes t) rest sibling opened ≡ g
 
-record ReadAll (ts : Children) (n link s : ℕ) (rs : List Record) (opened : List ℕ) (g : Told) : Type 0 where
-  rest : List Record
+record ReadAll (ts : Children) (n link s : ℕ) (rs : List Entry) (opened : List ℕ) (g : Told) : Type 0 where
+  rest : List Entry
   first : link ≡ first_link n ts
   same : rs ≡ records_all n ts ++ rest
   goes : follow (n + nodes_all ts) rest s opened ≡ g
 
 -- a walk begins with an enter or a byte
 first_event : (t : Tree) (g : Told) → (e : Event) × (k : Told) × (ahead (walk t) g ≡ e and k) × (e ≡ Leave → ⊥)
-first_event (leaf b) g = (Byte b, _, refl, byte_leave)
-first_event (node r ts) g = (Enter r, _, refl, enter_leave)
-
-joined : (t : Tree) (ts : Children) (n s : ℕ) (rest last : List Record) → s ≡ first_link (n + nodes t) ts
-    → rest ≡ records_all (n + nodes t) ts ++ last → records_of n s t ++ rest ≡ records_all n (t then ts) ++ last
-joined t ts n s rest last e f =
-    rw (e, f) (sym (append_assoc (records_of n (first_link (n + nodes t) ts) t) (records_all (n + nodes t) ts) last))
+first_event (leaf b) g = (Byte b, _, refl, λ h. cc)
+first_event (node r ts) g = (Enter r, _, refl, λ h. cc)
 
 mutual
-  read_back : (t : Tree) (n : ℕ) (r : Record) (rs : List Record) (opened : List ℕ) (g : Told)
+  read_back : (t : Tree) (n : ℕ) (r : Entry) (rs : List Entry) (opened : List ℕ) (g : Told)
       → reading n r opened (follow (n + 1) rs) ≡ ahead (walk t) g → Read t n (r ∷ rs) opened g
   read_back (leaf b) n r rs opened g h =
       let p = byte_read n opened (follow (n + 1) rs) r b g h in
       record { sibling = p.0; rest = rs; same = ap (λ x. x ∷ rs) p.1; goes = p.2 }
   read_back (node x ts) n r rs opened g h =
-      let p = enter_read n opened (follow (n + 1) rs) r x _ h in
-      let i = children_back ts (n + 1) p.0 p.1 rs opened g (p.3 ∙ ahead_append (walk_all ts) (Leave ∷ []) g) in
+      let p = enter_read n opened (follow (n + 1) rs) r x (ahead (walk_all ts) (Leave and g)) (rw ahead_append at h) in
+      let i = children_back ts (n + 1) p.0 p.1 rs opened g p.3 in
       let a : n + (1 + nodes_all ts) ≡ n + 1 + nodes_all ts = omega arith in
       record { sibling = p.1; rest = i.rest; same = cc (p.2, i.first, i.same); goes = rw a i.goes }
 
-  children_back : (ts : Children) (n link s : ℕ) (rs : List Record) (opened : List ℕ) (g : Told)
+  children_back : (ts : Children) (n link s : ℕ) (rs : List Entry) (opened : List ℕ) (g : Told)
       → follow n rs link (s ∷ opened) ≡ ahead (walk_all ts) (Leave and g) → ReadAll ts n link s rs opened g
   children_back no_more n link s rs opened g h =
       let p = left n rs link s opened g h in record { rest = rs; first = p.0; same = refl; goes = rw add-zero p.1 }
@@ -144,20 +97,19 @@ mutual
       record {
         rest = j.rest;
         first = p.here;
-        same = p.parts ∙ i.same ∙ joined t ts n i.sibling i.rest j.rest j.first j.same;
+        same = cc (p.parts, i.same, j.first, j.same, append_assoc (records_of n i.sibling t) (records_all (n + nodes t) ts) j.rest);
         goes = rw a j.goes;
       }
 
-begin_back : (t : Tree) (rs : List Record) → begin 0 rs [] ≡ tells (walk t) End → rs ≡ records_of 0 0 t
-begin_back t [] h = absurd (finish_event (h ∙ (first_event t (finally End)).2))
+begin_back : (t : Tree) (rs : List Entry) → begin 0 rs [] ≡ tells (walk t) End → rs ≡ records_of 0 0 t
+begin_back t [] h = let e = (first_event t (finally End)).2 in cc
 begin_back t (r ∷ rs) h =
     let i = read_back t 0 r rs [] (finally End) h in
     let k = finished (0 + nodes t) i.rest i.sibling i.goes in
-    i.same ∙ ap (λ l. records_of 0 i.sibling t ++ l) k.1 ∙ append-nil (records_of 0 i.sibling t) ∙ ap (λ (s : ℕ). records_of 0 s t) k.0
+    cc (i.same, k.0, k.1, append-nil (records_of 0 i.sibling t))
 
 right_length : (b : Bool) (g k : Told) (e : Event) → cond b g (fault_at TableLength 0) ≡ e and k → (b ≡ true) × (g ≡ e and k)
-right_length true g k e h = (refl, h)
-right_length false g k e h = absurd (finish_event h)
+right_length b g k e h = grind arith
 
 -- only one link table tells the walk and then the end
 link_table_back : (t : Tree) (bs : List ℕ) → TableOf t → Means link_table t bs → bs ≡ link_table_of t
@@ -168,41 +120,33 @@ link_table_back t bs f m =
     table_back t bs f.fit m.bytes whole (begin_back t (records bs) (p.1 ∙ sym e.2))
 
 -- From the records to the walk.
-abbrev read_next : ℕ → List Record → List ℕ → Told
+abbrev read_next : ℕ → List Entry → List ℕ → Told
 read_next n [] opened = fault_at BadLink n
 read_next n (r ∷ rs) opened = reading n r opened (follow (n + 1) rs)
 
-follow_next : (n : ℕ) (rs : List Record) (opened : List ℕ) → 0 < n → follow n rs n opened ≡ read_next n rs opened
-follow_next zero rs opened h = absurd (omega arith)
-follow_next (suc n) [] opened h = refl
-follow_next (suc n) (r ∷ rs) opened h =
-    ap (λ b. ask b BadLink (suc n) (reading (suc n) r opened (follow (suc n + 1) rs))) (eq-eqb (suc n) (suc n) refl)
+follow_next : (n : ℕ) (rs : List Entry) (opened : List ℕ) → 0 < n → follow n rs n opened ≡ read_next n rs opened
+follow_next n rs opened h = grind (arith, splits)
 
 mutual
-  tree_forth : (t : Tree) (n s : ℕ) (rest : List Record) (opened : List ℕ) → length opened + depth t ≤ 256
+  tree_forth : (t : Tree) (n s : ℕ) (rest : List Entry) (opened : List ℕ) → length opened + depth t ≤ 256
       → read_next n (records_of n s t ++ rest) opened ≡ ahead (walk t) (follow (n + nodes t) rest s opened)
   tree_forth (leaf b) n s rest opened d = refl
   tree_forth (node x ts) n s rest opened d =
       let a : n + 1 + nodes_all ts ≡ n + (1 + nodes_all ts) = omega arith in
       let i = children_forth ts (n + 1) s rest opened (omega arith) (omega arith) in
-      ap (λ b. ask b TooManyOpen n (Enter x and follow (n + 1) (records_all (n + 1) ts ++ rest) (first_link (n + 1) ts) (s ∷ opened)))
-      (lt-ltb (length opened) 256 (omega arith))
-      ∙ ap (λ g. Enter x and g) (i ∙ sym (ahead_append (walk_all ts) (Leave ∷ []) _)
-      ∙ ap (λ (k : ℕ). ahead (walk_all ts ++ (Leave ∷ [])) (follow k rest s opened)) a)
+      rw (lt-ltb (length opened) 256 (omega arith), ahead_append (walk_all ts) (Leave ∷ []), ← a) (cc i)
 
-  children_forth : (ts : Children) (n s : ℕ) (rest : List Record) (opened : List ℕ) → 0 < n → length opened + 1 + depth_all ts ≤ 256
+  children_forth : (ts : Children) (n s : ℕ) (rest : List Entry) (opened : List ℕ) → 0 < n → length opened + 1 + depth_all ts ≤ 256
       → follow n (records_all n ts ++ rest) (first_link n ts) (s ∷ opened) ≡ ahead (walk_all ts) (Leave and follow (n + nodes_all ts) rest s opened)
-  children_forth no_more n s rest opened h d = ap (λ (k : ℕ). Leave and follow k rest s opened) (sym (add-zero n))
+  children_forth no_more n s rest opened h d = rw (add-zero n)
   children_forth (t then ts) n s rest opened h d =
       let a : n + nodes t + nodes_all ts ≡ n + (nodes t + nodes_all ts) = omega arith in
       let sibling = first_link (n + nodes t) ts in
       let more = records_all (n + nodes t) ts ++ rest in
-      ap (λ l. follow n l n (s ∷ opened)) (append_assoc (records_of n sibling t) (records_all (n + nodes t) ts) rest)
-      ∙ follow_next n (records_of n sibling t ++ more) (s ∷ opened) h
+      rw (append_assoc (records_of n sibling t) (records_all (n + nodes t) ts) rest, ahead_append (walk t) (walk_all ts), ← a)
+      (follow_next n (records_of n sibling t ++ more) (s ∷ opened) h
       ∙ tree_forth t n sibling more (s ∷ opened) (omega arith)
-      ∙ ap (ahead (walk t)) (children_forth ts (n + nodes t) s rest opened (omega arith) (omega arith))
-      ∙ sym (ahead_append (walk t) (walk_all ts) _)
-      ∙ ap (λ (k : ℕ). ahead (walk t ++ walk_all ts) (Leave and follow k rest s opened)) a
+      ∙ ap (ahead (walk t)) (children_forth ts (n + nodes t) s rest opened (omega arith) (omega arith)))
 
 begin_next : (t : Tree) → begin 0 (records_of 0 0 t) [] ≡ read_next 0 (records_of 0 0 t) []
 begin_next (leaf b) = refl
@@ -212,9 +156,7 @@ link_table_forth : (t : Tree) → TableOf t → nodes t ≤ 8000 → depth t ≤
 link_table_forth t f few shallow =
     let l = f.size in
     let sized : (eqb (length (link_table_of t) % 8) 0 && leb (length (link_table_of t)) 64000) ≡ true = grind (arith, splits) in
-    cond-true _ (begin 0 (records (link_table_of t)) []) (fault_at TableLength 0) sized
-    ∙ ap (λ rs. begin 0 rs []) f.parts ∙ begin_next t
-    ∙ ap (λ rs. read_next 0 rs []) (sym (append-nil (records_of 0 0 t))) ∙ tree_forth t 0 0 [] [] (omega arith)
+    rw (sized, f.parts, begin_next t) (cc (append-nil (records_of 0 0 t), tree_forth t 0 0 [] [] (omega arith)))
 
 pub link_table_as_written : LinkTableAsWritten
 link_table_as_written t w =

@@ -1,22 +1,21 @@
 -- A tree's own listing tells its walk, and a listing that tells the walk is the tree's own.
-use Rattle.std.proofs.Common.{◌≡◌, ℕ, ◌+◌, ◌*◌, ◌/◌, ◌%◌, ◌<◌, ◌≤◌, Bool, true, false, cond, eqb, leb, ◌⊎◌, List, [], ◌∷◌, ◌++◌, length, Some, None, decimal, Option, sym, refl, ap, ◌∙◌, inl, inr, append_assoc, arith, length-append}
+use Rattle.std.proofs.Common.{◌≡◌, ℕ, ◌+◌, ◌*◌, ◌/◌, ◌%◌, ◌<◌, ◌≤◌, Bool, cond, eqb, leb, List, [], ◌∷◌, ◌++◌, length, Some, None, decimal, Option, sym, refl, ap, ◌∙◌, append_assoc, arith, length-append}
 use Rattle.std.proofs.ByRecursion.{All-append, All-weaker}
-use Rattle.std.proofs.lemmas.Bool.{cond-true, eqb-true, ne_eqb, le-leb}
+use Rattle.std.proofs.lemmas.Grind.{flat_map-append}
+use Rattle.std.proofs.lemmas.Bool.{cond-true, cond_both, eqb-true, ne_eqb, le-leb}
 use Rattle.std.proofs.lemmas.Bool.Decides.{nat_tests as splits}
 use Rattle.std.specs.Int.{IsInRange}
 use Rattle.std.specs.List.{AllByRecursion}
 use Rattle.guide.specs.declared.Event.{Event}
 use Rattle.guide.specs.declared.Event.TheVariants.{Enter, Byte, Leave}
 use Rattle.guide.specs.declared.Defect.TheVariants.{ListingTooLong}
-use Rattle.guide.specs.declared.Finish.TheVariants.{End, Fault}
 use Rattle.guide.specs.Listing.{Lines, unended, ended, longer, lines, rule_number, hex_byte, enters, reads, leaves, line_event, telling, from_lines, listing}
-use Rattle.guide.specs.Told.{Told, finally, ◌and◌, tells, EventInRange}
+use Rattle.guide.specs.Told.{End, fault, Told, finally, tells, EventInRange}
 use Rattle.tree.specs.Tree.{Tree, leaf, node, Children, no_more, ◌then◌, walk, walk_all}
 use Rattle.forms.specs.Laws.{ListingAsWritten}
 use Rattle.forms.specs.Writable.{nodes, nodes_all, ValuesInRange, AllValuesInRange}
 use Rattle.forms.specs.Writing.{line_of, lines_of}
-use Rattle.forms.proofs.Clashes.{none_some, finish_event, fault_end}
-use Rattle.forms.proofs.Numbers.{rule_back, rule_forth, written_digits, byte_back, byte_forth, hex_plain}
+use Rattle.forms.proofs.Numbers.{AllDigits, rule_back, rule_forth, written_digits, byte_back, byte_forth, hex_plain}
 
 -- From the events back to the bytes.
 -- the bytes of lines
@@ -25,8 +24,7 @@ unlines (unended l) = l
 unlines (ended l ls) = l ++ (10 ∷ unlines ls)
 
 unlines_longer : (b : ℕ) (ls : Lines) → unlines (longer b ls) ≡ b ∷ unlines ls
-unlines_longer b (unended l) = refl
-unlines_longer b (ended l ls) = refl
+unlines_longer b ls = grind arith
 
 -- lines lose nothing
 unlines_lines : (bs : List ℕ) → unlines (lines bs) ≡ bs
@@ -34,61 +32,49 @@ unlines_lines [] = refl
 unlines_lines (b ∷ bs) = let h = unlines_lines bs in let k = unlines_longer b (lines bs) in grind (arith, splits)
 
 enters_back : (o : Option ℕ) (e : Event) → enters o ≡ Some e → (r : ℕ) × (o ≡ Some r) × (Enter r ≡ e)
-enters_back None e h = absurd (none_some h)
-enters_back (Some r) e h = (r, refl, cc)
+enters_back o e h = grind arith
 
 reads_back : (o : Option ℕ) (e : Event) → reads o ≡ Some e → (b : ℕ) × (o ≡ Some b) × (Byte b ≡ e)
-reads_back None e h = absurd (none_some h)
-reads_back (Some b) e h = (b, refl, cc)
+reads_back o e h = grind arith
 
 leaves_back : (ds : List ℕ) (e : Event) → leaves ds ≡ Some e → (ds ≡ []) × (Leave ≡ e)
-leaves_back [] e h = (refl, cc)
-leaves_back (x ∷ xs) e h = absurd (none_some h)
-
--- which of three tests an answer stands behind
-one_of : {A : Type 0} (a b c : Bool) (x y z : Option A) (v : A) → cond a x (cond b y (cond c z None)) ≡ Some v
-    → ((a ≡ true) × (x ≡ Some v)) ⊎ (((b ≡ true) × (y ≡ Some v)) ⊎ ((c ≡ true) × (z ≡ Some v)))
-one_of true b c x y z v e = inl (refl, e)
-one_of false true c x y z v e = inr (inl (refl, e))
-one_of false false true x y z v e = inr (inr (refl, e))
-one_of false false false x y z v e = absurd (none_some e)
+leaves_back ds e h = grind arith
 
 -- only one line tells an event
 line_back : (l : List ℕ) (e : Event) → line_event l ≡ Some e → l ≡ line_of e
-line_back [] e h = absurd (none_some h)
+line_back [] e h = cc
 line_back (b ∷ ds) e h =
-    elim (one_of (eqb b 40) (eqb b 61) (eqb b 41) (enters (rule_number ds)) (reads (hex_byte ds)) (leaves ds) e h) [
-      | inl p ↦
-          let q = enters_back (rule_number ds) e p.1 in
-          cc (ap line_of q.2, rule_back ds q.0 q.1, eqb-true b 40 p.0)
-      | inr (inl p) ↦
-          let q = reads_back (hex_byte ds) e p.1 in
-          cc (ap line_of q.2, byte_back ds q.0 q.1, eqb-true b 61 p.0)
-      | inr (inr p) ↦ let q = leaves_back ds e p.1 in cc (ap line_of q.1, q.0, eqb-true b 41 p.0)
-    ]
+    cond_both (eqb b 40) (enters (rule_number ds)) _ Back
+    (λ t h. let q = enters_back (rule_number ds) e h in cc (ap line_of q.2, rule_back ds q.0 q.1, eqb-true b 40 t))
+    (λ _. cond_both (eqb b 61) (reads (hex_byte ds)) _ Back
+    (λ t h. let q = reads_back (hex_byte ds) e h in cc (ap line_of q.2, byte_back ds q.0 q.1, eqb-true b 61 t))
+    (λ _. cond_both (eqb b 41) (leaves ds) None Back (λ t h. let q = leaves_back ds e h in cc (ap line_of q.1, q.0, eqb-true b 41 t))
+    (λ _ h. cc))) h
+  where
+    Back : Option Event → Type 0
+    Back o = o ≡ Some e → b ∷ ds ≡ line_of e
 
 fault_tells : (es : List Event) {f : _} → finally f ≡ tells es End → f ≡ End
 fault_tells [] h = cc
-fault_tells (e ∷ es) h = absurd (finish_event h)
+fault_tells (e ∷ es) h = cc
 
 telling_back : (o : Option Event) (at : ℕ) (g : Told) (es : List Event) → telling o at g ≡ tells es End
     → (e : Event) × (rest : List Event) × (es ≡ e ∷ rest) × (o ≡ Some e) × (g ≡ tells rest End)
-telling_back None at g es h = absurd (fault_end (ap finally (fault_tells es h)))
-telling_back (Some e) at g [] h = absurd (finish_event (sym h))
+telling_back None at g es h = cc (fault_tells es h)
+telling_back (Some e) at g [] h = cc
 telling_back (Some e) at g (x ∷ es) h = (x, es, refl, cc, cc)
 
 lines_back : (at : ℕ) (ls : Lines) (es : List Event) → from_lines at ls ≡ tells es End → unlines ls ≡ lines_of es
 lines_back at (unended []) [] h = refl
-lines_back at (unended []) (e ∷ es) h = absurd (finish_event h)
-lines_back at (unended (b ∷ l)) es h = absurd (fault_end (ap finally (fault_tells es h)))
+lines_back at (unended []) (e ∷ es) h = cc
+lines_back at (unended (b ∷ l)) es h = cc (fault_tells es h)
 lines_back at (ended l ls) es h =
     let p = telling_back (line_event l) at _ es h in
     let i = lines_back (at + (length l + 1)) ls p.1 p.4 in
-    let k = line_back l p.0 p.3 in cc (ap lines_of p.2, i, k)
+    let k = line_back l p.0 p.3 in cc (ap lines_of p.2, i, k, append_assoc l (10 ∷ []) (unlines ls))
 
-short_enough : (b : Bool) (g : Told) (es : List Event) → cond b g (finally (Fault ListingTooLong 0)) ≡ tells es End → g ≡ tells es End
-short_enough true g es h = h
-short_enough false g es h = absurd (fault_end (ap finally (fault_tells es h)))
+short_enough : (b : Bool) (g : Told) (es : List Event) → cond b g (finally (fault ListingTooLong 0)) ≡ tells es End → g ≡ tells es End
+short_enough b g es h = grind (arith, fault_tells)
 
 -- only one listing tells these events and then the end
 listing_back : (bs : List ℕ) (es : List Event) → listing bs ≡ tells es End → bs ≡ lines_of es
@@ -99,31 +85,28 @@ listing_back bs es h = sym (unlines_lines bs) ∙ lines_back 0 (lines bs) es (sh
 abbrev Plain : ℕ → Type 0
 Plain b = (10 < b) × (b < 256)
 
-digits_plain : (ds : List ℕ) → AllByRecursion (IsInRange 48 57) ds → AllByRecursion Plain ds
-digits_plain = All-weaker (IsInRange 48 57) Plain (λ d h. (omega arith, omega arith))
+digits_plain : (ds : List ℕ) → AllDigits ds → AllByRecursion Plain ds
+digits_plain = All-weaker (IsInRange 48 57) Plain (λ d h. omega arith)
 
 line_plain : (e : Event) → EventInRange e → AllByRecursion Plain (line_of e)
-line_plain (Enter r) h = ((omega arith, omega arith), digits_plain (decimal r) (written_digits r h).digits)
-line_plain (Byte b) h = ((omega arith, omega arith), (hex_plain (b / 16) (omega arith), (hex_plain (b % 16) (omega arith), tt)))
-line_plain Leave h = ((omega arith, omega arith), tt)
+line_plain (Enter r) h = (omega arith, digits_plain (decimal r) (written_digits r h).digits)
+line_plain (Byte b) h = (omega arith, (hex_plain (b / 16) (omega arith), (hex_plain (b % 16) (omega arith), tt)))
+line_plain Leave h = omega arith
 
-line_ended : (l bs : List ℕ) → AllByRecursion Plain l → lines (l ++ (10 ∷ bs)) ≡ ended l (lines bs)
+line_ended : (l bs : List ℕ) → AllByRecursion Plain l → lines ((l ++ (10 ∷ [])) ++ bs) ≡ ended l (lines bs)
 line_ended [] bs h = refl
 line_ended (b ∷ l) bs h =
     let k = h.0 in
     simp (ne_eqb b 10 (λ e. omega arith), line_ended l bs h.1)
 
 line_forth : (e : Event) → EventInRange e → line_event (line_of e) ≡ Some e
-line_forth (Enter r) h = ap enters (rule_forth r h)
-line_forth (Byte b) h = ap reads (byte_forth b h)
-line_forth Leave h = refl
+line_forth e h = grind (arith, rule_forth, byte_forth)
 
 lines_forth : (at : ℕ) (es : List Event) → AllByRecursion EventInRange es → from_lines at (lines (lines_of es)) ≡ tells es End
 lines_forth at [] h = refl
 lines_forth at (e ∷ es) h =
     let next = at + (length (line_of e) + 1) in
-    ap (from_lines at) (line_ended (line_of e) (lines_of es) (line_plain e h.0))
-    ∙ ap (λ o. telling o at (from_lines next (lines (lines_of es)))) (line_forth e h.0) ∙ ap (λ g. e and g) (lines_forth next es h.1)
+    cc (line_ended (line_of e) (lines_of es) (line_plain e h.0), line_forth e h.0, lines_forth next es h.1)
 
 listing_forth : (es : List Event) → AllByRecursion EventInRange es → length (lines_of es) ≤ 64000 → listing (lines_of es) ≡ tells es End
 listing_forth es h k = cond-true _ (from_lines 0 (lines (lines_of es))) _ (le-leb (length (lines_of es)) 64000 k) ∙ lines_forth 0 es h
@@ -137,35 +120,23 @@ mutual
   walks_in_range no_more h = tt
   walks_in_range (t then ts) h = All-append EventInRange (walk t) (walk_all ts) (walk_in_range t h.0) (walks_in_range ts h.1)
 
-lines_append : (xs ys : List Event) → lines_of (xs ++ ys) ≡ lines_of xs ++ lines_of ys
-lines_append [] ys = refl
-lines_append (x ∷ xs) ys = let h = lines_append xs ys in rw (h, append_assoc)
-
-lines_length : (xs ys : List Event) → length (lines_of (xs ++ ys)) ≡ length (lines_of xs) + length (lines_of ys)
-lines_length xs ys = ap length (lines_append xs ys) ∙ length-append (lines_of xs) (lines_of ys)
-
 -- eight bytes a node suffice
 mutual
   walk_short : (t : Tree) → ValuesInRange t → length (lines_of (walk t)) ≤ 8 * nodes t
   walk_short (leaf b) h = omega arith
   walk_short (node r ts) h =
-      let i = walks_short ts h.1 in
-      let few = (written_digits r h.0).few in
-      let l = length-append (line_of (Enter r)) (10 ∷ lines_of (walk_all ts ++ (Leave ∷ []))) in
-      let k = lines_length (walk_all ts) (Leave ∷ []) in omega arith
+      simp (flat_map-append, length-append) (omega (arith, walks_short ts h.1, (written_digits r h.0).few))
 
   walks_short : (ts : Children) → AllValuesInRange ts → length (lines_of (walk_all ts)) ≤ 8 * nodes_all ts
   walks_short no_more h = omega arith
-  walks_short (t then ts) h =
-      let i = walk_short t h.0 in
-      let j = walks_short ts h.1 in
-      let k = lines_length (walk t) (walk_all ts) in omega arith
+  walks_short (t then ts) h = simp (flat_map-append, length-append) (omega (arith, walk_short t h.0, walks_short ts h.1))
 
 lines_bytes : (es : List Event) → AllByRecursion EventInRange es → AllByRecursion (λ b. b < 256) (lines_of es)
 lines_bytes [] h = tt
 lines_bytes (e ∷ es) h =
-    All-append (λ b. b < 256) (line_of e) (10 ∷ lines_of es)
-    (All-weaker Plain (λ b. b < 256) (λ b k. k.1) (line_of e) (line_plain e h.0)) (omega arith, lines_bytes es h.1)
+    All-append (λ b. b < 256) (line_of e ++ (10 ∷ [])) (lines_of es)
+    (All-append (λ b. b < 256) (line_of e) (10 ∷ []) (All-weaker Plain (λ b. b < 256) (λ b k. k.1) (line_of e) (line_plain e h.0)) (omega arith))
+    (lines_bytes es h.1)
 
 pub listing_as_written : ListingAsWritten
 listing_as_written t w =

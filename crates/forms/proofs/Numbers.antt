@@ -8,16 +8,13 @@ use Rattle.std.specs.Int.{IsInRange}
 use Rattle.std.specs.List.{AllByRecursion}
 use Rattle.guide.specs.Listing.{is_digit, decimal, rule_number, hex_digit, hex_pair, hex_byte}
 use Rattle.forms.specs.Writing.{hex_digit_of}
-use Rattle.forms.proofs.Clashes.{none_some}
 
 -- an answer that stands behind a test passed it
 pub passed : {A : Type 0} (b : Bool) (x : Option A) (v : A) → cond b x None ≡ Some v → (b ≡ true) × (x ≡ Some v)
-passed true x v e = (refl, e)
-passed false x v e = absurd (none_some e)
+passed b x v e = grind arith
 
 failed : {A : Type 0} (b : Bool) (x : Option A) (v : A) → cond b None x ≡ Some v → (b ≡ false) × (x ≡ Some v)
-failed true x v e = absurd (none_some e)
-failed false x v e = (refl, e)
+failed b x v e = grind arith
 
 -- Rule numbers.
 -- the number that digits write behind n
@@ -25,7 +22,7 @@ abbrev value_from : ℕ → List ℕ → ℕ
 value_from n [] = n
 value_from n (d ∷ ds) = value_from (10 * n + (d - 48)) ds
 
-abbrev AllDigits : List ℕ → Type 0
+abbrev pub AllDigits : List ℕ → Type 0
 AllDigits ds = AllByRecursion (IsInRange 48 57) ds
 
 numerals : IsNumeralModel AllDigits (value_from 0)
@@ -36,27 +33,25 @@ decimal_back n [] r e = (tt, cc)
 decimal_back n (d ∷ ds) r e =
     let p = passed (is_digit d) (decimal (10 * n + (d - 48)) ds) r e in
     let q = p.0 in
-    let low : 48 ≤ d = grind (arith, splits) in
-    let high : d ≤ 57 = grind (arith, splits) in
-    let i = decimal_back (10 * n + (d - 48)) ds r p.1 in (((low, high), i.0), i.1)
+    let digit : IsInRange 48 57 d = grind (arith, splits) in
+    let i = decimal_back (10 * n + (d - 48)) ds r p.1 in ((digit, i.0), i.1)
 
 decimal_forth : (n : ℕ) (ds : List ℕ) → AllDigits ds → decimal n ds ≡ Some (value_from n ds)
 decimal_forth n [] h = refl
 decimal_forth n (d ∷ ds) h =
-    let low = h.0.0 in
-    let high = h.0.1 in
+    let digit = h.0 in
     let t : is_digit d ≡ true = grind (arith, splits) in
     cond-true (is_digit d) _ None t ∙ decimal_forth (10 * n + (d - 48)) ds h.1
 
 -- a rule number's digits: 1 to 4, and no leading zero
 pub record RuleDigits (ds : List ℕ) : Type 0 where
-  pub digits : AllByRecursion (IsInRange 48 57) ds
+  pub digits : AllDigits ds
   pub some : 0 < length ds
   pub few : length ds ≤ 4
   pub no_leading_zero : get_or ds 0 0 ≡ 48 → length ds ≡ 1
 
 rule_digits : (ds : List ℕ) (r : ℕ) → rule_number ds ≡ Some r → RuleDigits ds × (value_from 0 ds ≡ r)
-rule_digits [] r e = absurd (none_some e)
+rule_digits [] r e = cc
 rule_digits (d ∷ []) r e =
     let p = decimal_back 0 (d ∷ []) r e in
     (record { digits = p.0; some = omega arith; few = omega arith; no_leading_zero = λ _. refl }, p.1)
@@ -100,30 +95,28 @@ rule_forth r h = rule_read (written r) (written_digits r h) ∙ ap Some (digits_
 
 -- Bytes.
 hex_back : (c d : ℕ) → hex_digit c ≡ Some d → (d < 16) × (c ≡ hex_digit_of d)
-hex_back c d e = (grind (arith, splits), grind (arith, splits))
+hex_back c d e = grind (arith, splits)
 
 hex_forth : (d : ℕ) → d < 16 → hex_digit (hex_digit_of d) ≡ Some d
 hex_forth d h = grind (arith, splits)
 
 pub hex_plain : (d : ℕ) → d < 16 → (10 < hex_digit_of d) × (hex_digit_of d < 256)
-hex_plain d h = (grind (arith, splits), grind (arith, splits))
+hex_plain d h = grind (arith, splits)
 
 pair_back : (h l : Option ℕ) (b : ℕ) → hex_pair h l ≡ Some b → (x : ℕ) × (y : ℕ) × (h ≡ Some x) × (l ≡ Some y) × (16 * x + y ≡ b)
-pair_back None l b e = absurd (none_some e)
-pair_back (Some h) None b e = absurd (none_some e)
-pair_back (Some h) (Some l) b e = (h, l, refl, refl, cc)
+pair_back h l b e = grind arith
 
 -- only one text is read as the byte b
 pub byte_back : (ds : List ℕ) (b : ℕ) → hex_byte ds ≡ Some b → ds ≡ hex_digit_of (b / 16) ∷ hex_digit_of (b % 16) ∷ []
-byte_back [] b e = absurd (none_some e)
-byte_back (h ∷ []) b e = absurd (none_some e)
+byte_back [] b e = cc
+byte_back (h ∷ []) b e = cc
 byte_back (h ∷ (l ∷ [])) b e =
     let p = pair_back (hex_digit h) (hex_digit l) b e in
     let x = hex_back h p.0 p.2 in
     let y = hex_back l p.1 p.3 in
     let v = p.4 in
     let qx : b / 16 ≡ p.0 = omega arith in let qy : b % 16 ≡ p.1 = omega arith in rw (qx, qy) (cc (x.1, y.1))
-byte_back (h ∷ (l ∷ (x ∷ xs))) b e = absurd (none_some e)
+byte_back (h ∷ (l ∷ (x ∷ xs))) b e = cc
 
 pub byte_forth : (b : ℕ) → b < 256 → hex_byte (hex_digit_of (b / 16) ∷ hex_digit_of (b % 16) ∷ []) ≡ Some b
 byte_forth b h =

@@ -1,12 +1,11 @@
 -- The places of a link table's faults.
-use Rattle.std.proofs.Common.{ℕ, zero, suc, ◌+◌, ◌%◌, Bool, true, false, ◌&&◌, eqb, ltb, leb, List, [], ◌∷◌, length, refl}
+use Rattle.std.proofs.Common.{ℕ, zero, suc, ◌+◌, ◌%◌, Bool, true, false, ◌&&◌, eqb, ltb, leb, List, [], ◌∷◌, length, Ok, Err, refl}
 use Rattle.std.proofs.lemmas.Bool.{cond_both}
 use Rattle.guide.specs.declared.Defect.{Defect}
 use Rattle.guide.specs.declared.Defect.TheVariants.{TableLength, BadLink, TooManyOpen}
 use Rattle.guide.specs.declared.Event.TheVariants.{Enter}
-use Rattle.guide.specs.declared.records.Record.{Record}
-use Rattle.guide.specs.declared.records.Record.TheVariants.{Rule, Leaf, Malformed}
-use Rattle.guide.specs.LinkTable.{records, fault_at, ask, reading, follow, begin}
+use Rattle.guide.specs.declared.records.Record.TheVariants.{Rule, Leaf}
+use Rattle.guide.specs.LinkTable.{Entry, records, fault_at, ask, reading, follow, begin}
 use Rattle.guide.specs.Told.{Told, ◌and◌}
 use Rattle.forms.specs.Laws.{PlacedAfter, FaultPlaceCountsRecords}
 
@@ -14,14 +13,14 @@ ask_placed : (b : Bool) (d : Defect) (n : ℕ) (g : Told) → PlacedAfter n g �
 ask_placed true d n g h = h
 ask_placed false d n g h = refl
 
-reading_placed : (n : ℕ) (r : Record) (opened : List ℕ) (go : ℕ → List ℕ → Told)
+reading_placed : (n : ℕ) (r : Entry) (opened : List ℕ) (go : ℕ → List ℕ → Told)
     → ((link : ℕ) (now_open : List ℕ) → PlacedAfter (n + 1) (go link now_open)) → PlacedAfter n (reading n r opened go)
-reading_placed n (Rule r child sibling) opened go h =
+reading_placed n (Ok (Rule r child sibling)) opened go h =
     ask_placed (ltb (length opened) 256) TooManyOpen n (Enter r and go child (sibling ∷ opened)) (h child (sibling ∷ opened))
-reading_placed n (Leaf b sibling) opened go h = h sibling opened
-reading_placed n Malformed opened go h = refl
+reading_placed n (Ok (Leaf b sibling)) opened go h = h sibling opened
+reading_placed n (Err d) opened go h = refl
 
-follow_placed : (n : ℕ) (rs : List Record) (link : ℕ) (opened : List ℕ) → PlacedAfter n (follow n rs link opened)
+follow_placed : (n : ℕ) (rs : List Entry) (link : ℕ) (opened : List ℕ) → PlacedAfter n (follow n rs link opened)
 follow_placed n rs zero (sibling ∷ opened) = follow_placed n rs sibling opened
 follow_placed n [] zero [] = tt
 follow_placed n (r ∷ rs) zero [] = refl
@@ -30,7 +29,7 @@ follow_placed n (r ∷ rs) (suc k) opened =
     ask_placed (eqb (suc k) n) BadLink n (reading n r opened (follow (n + 1) rs))
     (reading_placed n r opened (follow (n + 1) rs) (λ link now_open. follow_placed (n + 1) rs link now_open))
 
-begin_placed : (n : ℕ) (rs : List Record) (opened : List ℕ) → PlacedAfter n (begin n rs opened)
+begin_placed : (n : ℕ) (rs : List Entry) (opened : List ℕ) → PlacedAfter n (begin n rs opened)
 begin_placed n [] opened = tt
 begin_placed n (r ∷ rs) opened = reading_placed n r opened (follow (n + 1) rs) (λ link now_open. follow_placed (n + 1) rs link now_open)
 

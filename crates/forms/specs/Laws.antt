@@ -2,10 +2,9 @@
 use Rattle.std.specs.Prelude.{◌≡◌, ℕ, ◌+◌, ◌*◌, ◌<◌, List}
 use Rattle.std.specs.List.{AllByRecursion}
 use Rattle.guide.specs.declared.Event.TheVariants.{Enter, Byte, Leave}
-use Rattle.guide.specs.declared.Finish.TheVariants.{End, Fault}
 use Rattle.guide.specs.LinkTable.{link_table}
 use Rattle.guide.specs.Listing.{listing}
-use Rattle.guide.specs.Told.{Told, finally, ◌and◌, tells}
+use Rattle.guide.specs.Told.{End, Broken, Told, finally, ◌and◌, tells}
 use Rattle.tree.specs.Tree.{Tree, walk}
 use Rattle.forms.specs.Writable.{Writable}
 use Rattle.forms.specs.Writing.{listing_of, link_table_of}
@@ -35,7 +34,7 @@ LinkTableAsWritten = (t : Tree) → Writable t → Alone link_table t (link_tabl
 -- where n records were told before, a fault stands at eight times the records told: each enter and each byte is a record's
 abbrev pub PlacedAfter : ℕ → Told → Type 0
 PlacedAfter n (finally End) = Unit {0}
-PlacedAfter n (finally (Fault d place)) = place ≡ 8 * n
+PlacedAfter n (finally (Broken f)) = f.place ≡ 8 * n
 PlacedAfter n (Enter r and g) = PlacedAfter (n + 1) g
 PlacedAfter n (Byte b and g) = PlacedAfter (n + 1) g
 PlacedAfter n (Leave and g) = PlacedAfter n g

@@ -1,5 +1,6 @@
 -- How a tree is written as a listing and as a link table.
 use Rattle.std.specs.Prelude.{ℕ, ◌+◌, ◌/◌, ◌%◌, cond, List, [], ◌∷◌, ◌++◌, decimal, nat_lt}
+use Rattle.std.specs.List.{flat_map}
 use Rattle.guide.specs.declared.Event.{Event}
 use Rattle.guide.specs.declared.Event.TheVariants.{Enter, Byte, Leave}
 use Rattle.tree.specs.Tree.{Tree, leaf, node, Children, no_more, ◌then◌, walk}
@@ -18,8 +19,7 @@ line_of Leave = 41 ∷ []
 
 -- a line for each event, ended by byte 10
 abbrev pub lines_of : List Event → List ℕ
-lines_of [] = []
-lines_of (e ∷ es) = line_of e ++ (10 ∷ lines_of es)
+lines_of = flat_map (λ e. line_of e ++ (10 ∷ []))
 
 -- the listing of a tree: its walk, line by line
 abbrev pub listing_of : Tree → List ℕ

@@ -12,16 +12,19 @@ pub fn one_link_table_for_each_tree()
 {}
 
 // The one listing is the one that the definition writes.
+#[tactic(auto, using(crate::proofs::Listings::listing_as_written))]
 pub fn listing_as_written()
     ensures { ListingAsWritten }
 {}
 
 // The one link table is the one that the definition writes.
+#[tactic(auto, using(crate::proofs::LinkTables::link_table_as_written))]
 pub fn link_table_as_written()
     ensures { LinkTableAsWritten }
 {}
 
 // The place of a link table's fault is eight times the records told before it.
+#[tactic(auto, using(crate::proofs::Places::fault_place_counts_records))]
 pub fn fault_place_counts_records()
     ensures { FaultPlaceCountsRecords }
 {}

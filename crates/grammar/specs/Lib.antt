@@ -7,3 +7,6 @@ pub mod SpacedLaws
 pub mod Barred
 pub mod BarredBounds
 pub mod BarredLaws
+pub mod Either
+pub mod EitherBounds
+pub mod Text

@@ -39,17 +39,14 @@ impl BarSet {
     fn has(&self, rule: u16) -> bool
         ensures { result ≡ is_barred self.now.flags rule }
     {
-        if rule < 1024 {
-            self.flags[rule as usize]
-        } else {
-            false
-        }
+        self.flags.get(rule as usize).copied().unwrap_or(false)
     }
 
     fn add(&mut self, rule: u16) -> Result<(), BarRefusal>
         ensures answer { result ≡ bar_answer rule }
         ensures set { Bars rule self.old.flags self.new.flags }
     {
+        // By index: after a write through `get_mut`, the proof that the other flags stay did not close.
         if rule >= 1024 {
             return Err(BarRefusal::NumberTooLarge);
         }
@@ -89,7 +86,7 @@ impl<B: Grammar> Barred<B> {
     fn unbarred(&self, rule: u16) -> Option<u16>
         ensures { result ≡ (if is_barred self.now.set.flags rule then None else Some rule) }
     {
-        if self.set.has(rule) { None } else { Some(rule) }
+        (!self.set.has(rule)).then_some(rule)
     }
 }
 

@@ -18,21 +18,13 @@ impl BlankSymbol {
     pub(crate) fn left(self, n: u16) -> Option<u16>
         ensures { result ≡ left_of (slice_get (blank_rules self.symbol) n) }
     {
-        if n < BLANK_RULES {
-            Some(self.symbol)
-        } else {
-            None
-        }
+        (n < BLANK_RULES).then_some(self.symbol)
     }
 
     pub(crate) fn mark(self, n: u16) -> Option<Mark>
         ensures { result ≡ mark_of (slice_get (blank_rules self.symbol) n) }
     {
-        if n < BLANK_RULES {
-            Some(Mark::Tight)
-        } else {
-            None
-        }
+        (n < BLANK_RULES).then_some(Mark::Tight)
     }
 
     pub(crate) fn parts(self, n: u16) -> Option<u8>

@@ -1,4 +1,4 @@
-// Grammars: the parts of a rule, the questions that a grammar is asked, the house grammar, and two layers over any grammar.
+// Grammars: the parts of a rule, the questions that a grammar is asked, the house grammar, two layers over any grammar, and one grammar of two.
 #![tactic(auto)]
 
 ghost use Rattle.std.specs.Prelude.{◌≡◌};
@@ -6,9 +6,12 @@ ghost use Rattle.grammar.specs.Meaning.{Meaning, Bounded, allows, left_of, mark_
 
 pub mod barred;
 mod blank;
+pub mod blanks;
+pub mod either;
 pub mod house;
 pub mod laws;
 pub mod spaced;
+mod text;
 
 // Whether blanks may stand between a rule's parts, where a layer allows them (loose), or may not (tight).
 #[derive(Clone, Copy, PartialEq, Eq)]

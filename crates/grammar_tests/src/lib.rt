@@ -2,6 +2,8 @@
 #![tactic(auto)]
 
 mod barred;
+mod chosen;
 mod packed_table;
 mod spaced;
+mod text;
 pub mod uniform;

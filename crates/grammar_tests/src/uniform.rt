@@ -33,33 +33,18 @@ impl Grammar for Uniform {
     }
 
     fn left(&self, rule: u16) -> Option<u16> {
-        if rule < self.rules { Some(0) } else { None }
+        (rule < self.rules).then_some(0)
     }
 
     fn mark(&self, rule: u16) -> Option<Mark> {
-        if rule < self.rules {
-            Some(Mark::Loose)
-        } else {
-            None
-        }
+        (rule < self.rules).then_some(Mark::Loose)
     }
 
     fn parts(&self, rule: u16) -> Option<u8> {
-        if rule < self.rules {
-            Some(self.parts)
-        } else {
-            None
-        }
+        (rule < self.rules).then_some(self.parts)
     }
 
     fn part(&self, rule: u16, k: u8) -> Option<Part> {
-        if rule >= self.rules {
-            return None;
-        }
-        if k < self.parts {
-            Some(Part::only(0))
-        } else {
-            None
-        }
+        (rule < self.rules && k < self.parts).then_some(Part::only(0))
     }
 }

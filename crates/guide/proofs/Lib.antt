@@ -1,4 +1,4 @@
 pub mod Stacks
 mod Answering
-mod Reading
+mod Endings
 mod Linking

@@ -6,3 +6,4 @@ pub mod Lines
 pub mod LinkTable
 pub mod LinkTableBounds
 pub mod Steps
+pub mod Written

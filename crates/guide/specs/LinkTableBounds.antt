@@ -1,16 +1,15 @@
 -- The events of any link table are in range. (A ghost member cites it, so it stands here and not in proofs/.)
-use Rattle.std.specs.Prelude.{◌≡◌, ℕ, zero, suc, ◌+◌, ◌<◌, ◌≤◌, Bool, true, false, ◌&&◌, List, [], ◌∷◌, length, ◌==◌, nat_le, nat_lt, refl}
+use Rattle.std.specs.Prelude.{◌≡◌, ℕ, zero, suc, ◌+◌, ◌<◌, ◌≤◌, Bool, true, false, ◌&&◌, List, [], ◌∷◌, length, Ok, Err, ◌==◌, nat_le, nat_lt, refl}
 use Rattle.std.proofs.Common.{sym, subst, arith}
 use Rattle.std.proofs.lemmas.Bool.{and_parts, leb-true, cond_both}
 use Rattle.guide.specs.declared.Defect.{Defect}
-use Rattle.guide.specs.declared.Defect.TheVariants.{TooManyOpen, BadLink}
+use Rattle.guide.specs.declared.Defect.TheVariants.{BadRecord, TooManyOpen, BadLink}
 use Rattle.guide.specs.declared.Event.TheVariants.{Enter}
-use Rattle.guide.specs.declared.records.Record.{Record}
-use Rattle.guide.specs.declared.records.Record.TheVariants.{Rule, Leaf, Malformed}
+use Rattle.guide.specs.declared.records.Record.TheVariants.{Rule, Leaf}
 use Rattle.guide.specs.declared.steps.Phase.{Phase}
 use Rattle.guide.specs.declared.steps.Phase.TheVariants.{WrongLength, Begin, Walk}
 use Rattle.guide.specs.Told.{Told, ◌and◌, InRange}
-use Rattle.guide.specs.LinkTable.{field, record_of, records, ask, reading, follow, begin}
+use Rattle.guide.specs.LinkTable.{Entry, field, record_of, records, ask, reading, follow, begin}
 use Rattle.guide.specs.Steps.{link_table_from}
 
 -- Tables are taken apart by eight bytes. What holds of a table too short for a record, and of a record and a table
@@ -28,20 +27,20 @@ by_records P short one (k ∷ z ∷ v1 ∷ v0 ∷ c1 ∷ c0 ∷ s1 ∷ []) = sho
 by_records P short one (k ∷ z ∷ v1 ∷ v0 ∷ c1 ∷ c0 ∷ s1 ∷ s0 ∷ bs) = one k z v1 v0 c1 c0 s1 s0 bs (by_records P short one bs)
 
 -- a record's value is in range
-abbrev ValueInRange : Record → Type 0
-ValueInRange (Rule r child sibling) = r ≤ 9999
-ValueInRange (Leaf b sibling) = b < 256
-ValueInRange Malformed = Unit {0}
+abbrev ValueInRange : Entry → Type 0
+ValueInRange (Ok (Rule r child sibling)) = r ≤ 9999
+ValueInRange (Ok (Leaf b sibling)) = b < 256
+ValueInRange (Err d) = Unit {0}
 
-abbrev AllInRange : List Record → Type 0
+abbrev AllInRange : List Entry → Type 0
 AllInRange [] = Unit {0}
 AllInRange (r ∷ rs) = ValueInRange r × AllInRange rs
 
 record_in : (k z v c s : ℕ) → ValueInRange (record_of k z v c s)
 record_in k z v c s =
-    cond_both (k == 1 && (z == 0 && nat_le v 9999)) (Rule v c s) _ ValueInRange
+    cond_both (k == 1 && (z == 0 && nat_le v 9999)) (Ok (Rule v c s)) _ ValueInRange
     (λ e. let p = and_parts (k == 1) _ e in leb-true v 9999 (and_parts (z == 0) (nat_le v 9999) p.1).1)
-    (λ _. cond_both (k == 2 && (z == 0 && (nat_le v 255 && c == 0))) (Leaf v s) Malformed ValueInRange
+    (λ _. cond_both (k == 2 && (z == 0 && (nat_le v 255 && c == 0))) (Ok (Leaf v s)) (Err BadRecord) ValueInRange
     (λ e.
     let p = and_parts (k == 2) _ e in
     let q = and_parts (z == 0) _ p.1 in
@@ -57,14 +56,14 @@ ask_in : (b : Bool) (d : Defect) (n : ℕ) (g : Told) → InRange g → InRange 
 ask_in true d n g h = h
 ask_in false d n g h = tt
 
-reading_in : (n : ℕ) (r : Record) (opened : List ℕ) (go : ℕ → List ℕ → Told) → ValueInRange r
+reading_in : (n : ℕ) (r : Entry) (opened : List ℕ) (go : ℕ → List ℕ → Told) → ValueInRange r
     → ((link : ℕ) (now_open : List ℕ) → InRange (go link now_open)) → InRange (reading n r opened go)
-reading_in n (Rule r child sibling) opened go h k =
+reading_in n (Ok (Rule r child sibling)) opened go h k =
     ask_in (nat_lt (length opened) 256) TooManyOpen n (Enter r and go child (sibling ∷ opened)) (h, k child (sibling ∷ opened))
-reading_in n (Leaf b sibling) opened go h k = (h, k sibling opened)
-reading_in n Malformed opened go h k = tt
+reading_in n (Ok (Leaf b sibling)) opened go h k = (h, k sibling opened)
+reading_in n (Err d) opened go h k = tt
 
-follow_in : (n : ℕ) (rs : List Record) (link : ℕ) (opened : List ℕ) → AllInRange rs → InRange (follow n rs link opened)
+follow_in : (n : ℕ) (rs : List Entry) (link : ℕ) (opened : List ℕ) → AllInRange rs → InRange (follow n rs link opened)
 follow_in n rs zero (sibling ∷ opened) h = (tt, follow_in n rs sibling opened h)
 follow_in n [] zero [] h = tt
 follow_in n (r ∷ rs) zero [] h = tt
@@ -73,7 +72,7 @@ follow_in n (r ∷ rs) (suc k) opened h =
     ask_in (suc k == n) BadLink n (reading n r opened (follow (n + 1) rs))
     (reading_in n r opened (follow (n + 1) rs) h.0 (λ link now_open. follow_in (n + 1) rs link now_open h.1))
 
-begin_in : (n : ℕ) (rs : List Record) (opened : List ℕ) → AllInRange rs → InRange (begin n rs opened)
+begin_in : (n : ℕ) (rs : List Entry) (opened : List ℕ) → AllInRange rs → InRange (begin n rs opened)
 begin_in n [] opened h = tt
 begin_in n (r ∷ rs) opened h =
     reading_in n r opened (follow (n + 1) rs) h.0 (λ link now_open. follow_in (n + 1) rs link now_open h.1)

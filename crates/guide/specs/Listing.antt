@@ -3,8 +3,7 @@ use Rattle.std.specs.Prelude.{ℕ, ◌+◌, ◌-◌, ◌*◌, Bool, cond, ◌&&�
 use Rattle.guide.specs.declared.Defect.TheVariants.{ListingTooLong, BadLine}
 use Rattle.guide.specs.declared.Event.{Event}
 use Rattle.guide.specs.declared.Event.TheVariants.{Enter, Byte, Leave}
-use Rattle.guide.specs.declared.Finish.TheVariants.{End, Fault}
-use Rattle.guide.specs.Told.{Told, finally, ◌and◌}
+use Rattle.guide.specs.Told.{End, fault, Told, finally, ◌and◌}
 
 -- byte 10 ends each line: the ended lines in order, and the bytes behind the last ending
 pub data Lines : Type 0 where
@@ -71,18 +70,18 @@ line_event (b ∷ ds) =
 
 -- the line at the offset `at` tells an event, and g comes behind it; or it is none of the three
 abbrev pub telling : Option Event → ℕ → Told → Told
-telling None at g = finally (Fault BadLine at)
+telling None at g = finally (fault BadLine at)
 telling (Some e) at g = e and g
 
 -- what the lines tell, where the first begins at the offset `at`
 abbrev pub from_lines : ℕ → Lines → Told
 from_lines at (unended []) = finally End
-from_lines at (unended (b ∷ l)) = finally (Fault BadLine at)
+from_lines at (unended (b ∷ l)) = finally (fault BadLine at)
 from_lines at (ended l ls) = telling (line_event l) at (from_lines (at + (length l + 1)) ls)
 
 -- what the listing bs tells from the offset `at` on
 abbrev pub listing_from : List ℕ → ℕ → Told
-listing_from bs at = cond (nat_le (length bs) 64000) (from_lines at (lines (drop at bs))) (finally (Fault ListingTooLong 0))
+listing_from bs at = cond (nat_le (length bs) 64000) (from_lines at (lines (drop at bs))) (finally (fault ListingTooLong 0))
 
 -- what a listing tells
 abbrev pub listing : List ℕ → Told

@@ -4,8 +4,7 @@ use Rattle.std.proofs.Common.{arith}
 use Rattle.std.proofs.lemmas.Bool.{and_parts, leb-true, cond_both}
 use Rattle.guide.specs.declared.Defect.TheVariants.{ListingTooLong}
 use Rattle.guide.specs.declared.Event.{Event}
-use Rattle.guide.specs.declared.Finish.TheVariants.{Fault}
-use Rattle.guide.specs.Told.{Told, finally, EventInRange, InRange}
+use Rattle.guide.specs.Told.{fault, Told, finally, EventInRange, InRange}
 use Rattle.guide.specs.Listing.{Lines, unended, ended, lines, is_digit, decimal, rule_number, hex_digit, hex_pair, hex_byte, enters, reads, leaves, line_event, telling, from_lines, listing_from}
 
 -- P holds of the value, if there is one
@@ -93,5 +92,5 @@ lines_in at (ended l ls) = telling_in (line_event l) at _ (line_in l) (lines_in 
 
 pub listing_in_range : (bs : List ℕ) (at : ℕ) → InRange (listing_from bs at)
 listing_in_range bs at =
-    cond_both (nat_le (length bs) 64000) (from_lines at (lines (drop at bs))) (finally (Fault ListingTooLong 0)) InRange
+    cond_both (nat_le (length bs) 64000) (from_lines at (lines (drop at bs))) (finally (fault ListingTooLong 0)) InRange
     (λ _. lines_in at (lines (drop at bs))) (λ _. tt)

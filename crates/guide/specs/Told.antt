@@ -1,12 +1,22 @@
 -- What a guide means: the events still to come, in order, and then how it finishes.
-use Rattle.std.specs.Prelude.{ℕ, zero, suc, ◌<◌, ◌≤◌, List, [], ◌∷◌}
+use Rattle.std.specs.Prelude.{ℕ, zero, suc, ◌<◌, ◌≤◌, List, [], ◌∷◌, Some, None, Option, Ok, Err, Result}
 use Rattle.guide.specs.declared.Defect.{Defect}
 use Rattle.guide.specs.declared.Defect.TheVariants.{ListingTooLong, BadLine, TableLength, BadRecord, BadLink, TooManyOpen, RecordsUnread}
 use Rattle.guide.specs.declared.Event.{Event}
 use Rattle.guide.specs.declared.Event.TheVariants.{Enter, Byte, Leave}
-use Rattle.guide.specs.declared.Finish.{Finish}
-use Rattle.guide.specs.declared.Answer.{Answer}
-use Rattle.guide.specs.declared.Answer.TheVariants.{Next, Done}
+use Rattle.guide.specs.declared.Fault.{Fault}
+
+-- how a guide finishes: by the end, or by a fault
+pub data Finish : Type 0 where
+  End : Finish
+  Broken : Fault → Finish
+
+-- a defect at a place in the guide's bytes
+abbrev pub defect_at : Defect → ℕ → Fault
+defect_at d place = record { defect = d; place = place }
+
+abbrev pub fault : Defect → ℕ → Finish
+fault d place = Broken (defect_at d place)
 
 -- the finish, or an event and what is told behind it
 infixr 60 ◌and◌
@@ -24,9 +34,10 @@ abbrev pub tells : List Event → Finish → Told
 tells es f = ahead es (finally f)
 
 -- the next answer
-abbrev pub answer : Told → Answer
-answer (finally f) = Done f
-answer (e and g) = Next e
+abbrev pub answer : Told → Result (Option Event) Fault
+answer (finally End) = Ok None
+answer (finally (Broken f)) = Err f
+answer (e and g) = Ok (Some e)
 
 -- what is to come behind the next answer: at the finish always that finish
 abbrev pub behind : Told → Told

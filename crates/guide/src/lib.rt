@@ -2,7 +2,7 @@
 #![tactic(auto)]
 
 ghost use Rattle.std.specs.Prelude.{◌≡◌};
-ghost use Rattle.guide.specs.Told.{Told, InRange, answer, behind, defect_number};
+ghost use Rattle.guide.specs.Told.{Told, InRange, answer, behind, defect_number, defect_at};
 
 mod lines;
 pub mod link_table;
@@ -10,6 +10,7 @@ pub mod listing;
 mod records;
 pub mod stack;
 mod steps;
+pub mod written;
 
 // One event of a walk: a rule node is entered, a leaf's byte is told, or the newest open node is left.
 #[derive(Clone, Copy, PartialEq, Eq)]
@@ -46,19 +47,23 @@ impl Defect {
             Defect::RecordsUnread => 45,
         }
     }
+
+    // This defect at a place in the bytes.
+    pub fn at(self, place: usize) -> Fault
+        ensures { result ≡ defect_at self place }
+    {
+        Fault {
+            defect: self,
+            place,
+        }
+    }
 }
 
-// How a guide finishes: by the end, or by a fault at a place in its bytes.
+// A defect, and the place in the guide's bytes at which it is.
 #[derive(Clone, Copy, PartialEq, Eq)]
-pub enum Finish {
-    End,
-    Fault { defect: Defect, place: usize },
-}
-
-#[derive(Clone, Copy, PartialEq, Eq)]
-pub enum Answer {
-    Next(Event),
-    Done(Finish),
+pub struct Fault {
+    pub defect: Defect,
+    pub place: usize,
 }
 
 // A guide by the events still to come and its finish. Whoever builds one shows which they are for its bytes, that they are in range,
@@ -68,8 +73,8 @@ pub trait Guide {
 
     ghost bounds: { (x : Self) → InRange (told x) };
 
-    // Takes the next answer: the first event, or the finish where no event is left, and from then on always that finish.
-    fn next(&mut self) -> Answer
+    // Takes the next event. Where none is left, None is the end and an error is the guide's fault, and from then on the answer is always that.
+    fn next(&mut self) -> Result<Option<Event>, Fault>
         ensures said { result ≡ answer (told self.old) }
         ensures goes { told self.new ≡ behind (told self.old) };
 }

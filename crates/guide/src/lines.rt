@@ -1,7 +1,7 @@
 // One line of a listing.
-ghost use Rattle.std.specs.Prelude.{◌≡◌, ℕ, ◌+◌, ◌≤◌, length};
+ghost use Rattle.std.specs.Prelude.{◌≡◌, ℕ, ◌+◌, ◌<◌, ◌≤◌, length, IfSome, ◌==◌, position};
 ghost use Rattle.guide.specs.Listing.{decimal as decimal_value, rule_number, hex_digit, hex_byte, line_event};
-ghost use Rattle.guide.specs.Lines.{written, FirstLine, HasForm, LineAt, LineRead};
+ghost use Rattle.guide.specs.Lines.{decimal_digit, written, FirstLine, HasForm, LineAt, LineRead};
 
 use crate::Event;
 
@@ -20,6 +20,16 @@ pub struct Line<'a> {
     form: Form<'a>,
 }
 
+fn decimal_digit(b: u8) -> Option<u8>
+    ensures value { result ≡ decimal_digit b }
+    ensures below { IfSome result (λ v. v < 10) }
+{
+    match b {
+        b'0'..=b'9' => Some(b - b'0'),
+        _ => None,
+    }
+}
+
 // The number that at most four decimal digits write.
 fn decimal(digits: &[u8]) -> Option<u16>
     requires { length digits.now ≤ 4 }
@@ -27,10 +37,7 @@ fn decimal(digits: &[u8]) -> Option<u16>
 {
     let mut n: u16 = 0;
     for d in digits {
-        if *d < b'0' || *d > b'9' {
-            return None;
-        }
-        n = 10 * n + (*d - b'0') as u16;
+        n = 10 * n + u16::from(decimal_digit(*d)?);
     }
     Some(n)
 }
@@ -49,9 +56,8 @@ fn hex_digit(b: u8) -> Option<u8>
     ensures { result ≡ hex_digit b }
 {
     match b {
-        b'0'..=b'9' => Some(b - b'0'),
         b'a'..=b'f' => Some(b - b'a' + 10),
-        _ => None,
+        _ => decimal_digit(b),
     }
 }
 
@@ -91,16 +97,18 @@ fn event_of(form: Form<'_>) -> Option<Event>
     }
 }
 
+// Where the first byte 10 stands.
+fn ending(rest: &[u8]) -> Option<usize>
+    ensures { result ≡ position (λ b. b == 10) rest.now }
+{
+    rest.iter().position(|b| *b == 10)
+}
+
 // The first line without its ending, or None where no byte 10 ends it.
 fn first_line(rest: &[u8]) -> Option<&[u8]>
     ensures { FirstLine rest.now result }
 {
-    for (i, b) in rest.iter().enumerate() {
-        if *b == 10 {
-            return Some(&rest[0..i]);
-        }
-    }
-    None
+    Some(&rest[..ending(rest)?])
 }
 
 // The line that begins at an offset, or None where it has no ending or no form.

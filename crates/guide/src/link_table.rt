@@ -7,12 +7,13 @@ ghost use Rattle.guide.specs.Steps.{link_table_from};
 
 use crate::stack::{pop, push};
 use crate::steps::{Phase, Step, first_phase, next_step};
-use crate::{Answer, Defect, Event, Finish, Guide};
+use crate::{Defect, Event, Fault, Guide};
 
 // How many nodes may be open at once.
 const MOST_OPEN: usize = 256;
 
 // A table of which `read` records were read, and the siblings of its open nodes, on a stack.
+// There is no heap, so the stack is an array and a count, as its functions take them.
 #[derive(Drop)]
 pub struct LinkTable<'a> {
     unread: &'a [u8],
@@ -26,7 +27,7 @@ pub struct LinkTable<'a> {
 
 impl<'a> LinkTable<'a> {
     pub fn new(bytes: &'a [u8]) -> LinkTable<'a>
-        ensures { link_table_from result.phase result.read result.unread.now result.link (held result.siblings result.depth) ≡ link_table bytes.now }
+        ensures { ⟦<LinkTable<'a> as Guide>⟧.told result ≡ link_table bytes.now }
     {
         let (phase, unread) = first_phase(bytes);
         LinkTable {
@@ -45,41 +46,33 @@ impl<'a> Guide for LinkTable<'a> {
 
     ghost bounds = { λ s. link_table_in_range s.phase s.read s.unread.now s.link (held s.siblings s.depth) };
 
-    fn next(&mut self) -> Answer {
-        let (step, rest) = next_step(self.phase, self.unread, self.link, self.read);
-        match step {
-            Step::Stop(finish) => Answer::Done(finish),
-            Step::Close(finish) => match pop(&self.siblings, &mut self.depth) {
-                Some(sibling) => {
-                    self.link = sibling;
-                    Answer::Next(Event::Leave)
-                }
-                None => Answer::Done(finish),
-            },
+    fn next(&mut self) -> Result<Option<Event>, Fault> {
+        let (step, rest) = next_step(self.phase, self.unread, self.link, self.read)?;
+        let (event, link) = match step {
+            Step::Stop => return Ok(None),
+            Step::Close(finish) => {
+                let Some(sibling) = pop(&self.siblings, &mut self.depth) else {
+                    finish?;
+                    return Ok(None);
+                };
+                self.link = sibling;
+                return Ok(Some(Event::Leave));
+            }
             Step::Open {
                 value,
                 child,
                 sibling,
             } => {
-                if !push(&mut self.siblings, &mut self.depth, sibling) {
-                    return Answer::Done(Finish::Fault {
-                        defect: Defect::TooManyOpen,
-                        place: 8 * self.read,
-                    });
-                }
-                self.unread = rest;
-                self.read += 1;
-                self.phase = Phase::Walk;
-                self.link = child;
-                Answer::Next(Event::Enter(value))
+                let full = Defect::TooManyOpen.at(8 * self.read);
+                push(&mut self.siblings, &mut self.depth, sibling).or(Err(full))?;
+                (Event::Enter(value), child)
             }
-            Step::Tell { value, sibling } => {
-                self.unread = rest;
-                self.read += 1;
-                self.phase = Phase::Walk;
-                self.link = sibling;
-                Answer::Next(Event::Byte(value))
-            }
-        }
+            Step::Tell { value, sibling } => (Event::Byte(value), sibling),
+        };
+        self.unread = rest;
+        self.read += 1;
+        self.phase = Phase::Walk;
+        self.link = link;
+        Ok(Some(event))
     }
 }

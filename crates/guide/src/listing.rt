@@ -4,7 +4,7 @@ ghost use Rattle.guide.specs.Listing.{listing, listing_from};
 ghost use Rattle.guide.specs.ListingBounds.{listing_in_range};
 
 use crate::lines::read_line;
-use crate::{Answer, Defect, Finish, Guide};
+use crate::{Defect, Event, Fault, Guide};
 
 // The longest listing that is read.
 const MOST_BYTES: usize = 64_000;
@@ -19,7 +19,7 @@ pub struct Listing<'a> {
 
 impl<'a> Listing<'a> {
     pub fn new(bytes: &'a [u8]) -> Listing<'a>
-        ensures { listing_from result.bytes.now result.offset ≡ listing bytes.now }
+        ensures { ⟦<Listing<'a> as Guide>⟧.told result ≡ listing bytes.now }
     {
         Listing { bytes, offset: 0 }
     }
@@ -30,27 +30,17 @@ impl<'a> Guide for Listing<'a> {
 
     ghost bounds = { λ s. listing_in_range s.bytes.now s.offset };
 
-    fn next(&mut self) -> Answer {
+    fn next(&mut self) -> Result<Option<Event>, Fault> {
         let bytes = self.bytes;
         let offset = self.offset;
         if bytes.len() > MOST_BYTES {
-            return Answer::Done(Finish::Fault {
-                defect: Defect::ListingTooLong,
-                place: 0,
-            });
+            return Err(Defect::ListingTooLong.at(0));
         }
         if offset >= bytes.len() {
-            return Answer::Done(Finish::End);
+            return Ok(None);
         }
-        match read_line(bytes, offset) {
-            None => Answer::Done(Finish::Fault {
-                defect: Defect::BadLine,
-                place: offset,
-            }),
-            Some((event, behind)) => {
-                self.offset = behind;
-                Answer::Next(event)
-            }
-        }
+        let (event, behind) = read_line(bytes, offset).ok_or(Defect::BadLine.at(offset))?;
+        self.offset = behind;
+        Ok(Some(event))
     }
 }

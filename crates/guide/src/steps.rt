@@ -3,7 +3,7 @@ ghost use Rattle.std.specs.Prelude.{◌≡◌, ℕ, ◌*◌, ◌≤◌};
 ghost use Rattle.guide.specs.Steps.{Begun, decided, Decided};
 
 use crate::records::{Record, split_record};
-use crate::{Defect, Finish};
+use crate::{Defect, Fault};
 
 // The reader's phase: the table's length is wrong, its first record is to be read, or a link is to be followed.
 #[derive(Clone, Copy)]
@@ -13,11 +13,11 @@ pub enum Phase {
     Walk,
 }
 
-// The reader stops; it closes the newest open node, or finishes where none is open; it opens a rule's node; it tells a leaf.
+// The reader stops at the end; it closes the newest open node, or finishes so where none is open; it opens a rule's node; it tells a leaf.
 #[derive(Clone, Copy)]
 pub enum Step {
-    Stop(Finish),
-    Close(Finish),
+    Stop,
+    Close(Result<(), Fault>),
     Open {
         value: u16,
         child: u16,
@@ -43,52 +43,56 @@ pub(crate) fn first_phase(bytes: &[u8]) -> (Phase, &[u8])
 }
 
 // The step in a phase, by the next record and the link to follow, where `read` records were read.
-fn decide(phase: Phase, record: Option<Record>, link: u16, read: usize) -> Step
+// The link is matched as it stands in its record, where 0 leads nowhere.
+fn decide(
+    phase: Phase,
+    record: Option<Result<Record, Defect>>,
+    link: u16,
+    read: usize,
+) -> Result<Step, Fault>
     requires { 8 * read ≤ 64000 }
     ensures { result ≡ decided phase «record» link read }
 {
     let place = 8 * read;
     match (phase, record, link) {
-        (Phase::WrongLength, _, _) => Step::Stop(fault(Defect::TableLength, 0)),
-        (Phase::Begin, None, _) => Step::Stop(Finish::End),
-        (Phase::Walk, None, 0) => Step::Close(Finish::End),
-        (Phase::Walk, Some(_), 0) => Step::Close(fault(Defect::RecordsUnread, place)),
-        (Phase::Walk, None, _) => Step::Stop(fault(Defect::BadLink, place)),
-        (Phase::Walk, Some(_), _) if link as usize != read => Step::Stop(fault(
-            Defect::BadLink,
-            place,
-        )),
-        (_, Some(Record::Malformed), _) => Step::Stop(fault(Defect::BadRecord, place)),
+        (Phase::WrongLength, _, _) => Err(Defect::TableLength.at(0)),
+        (Phase::Begin, None, _) => Ok(Step::Stop),
+        (Phase::Walk, None, 0) => Ok(Step::Close(Ok(()))),
+        (Phase::Walk, Some(_), 0) => Ok(Step::Close(Err(Defect::RecordsUnread.at(place)))),
+        (Phase::Walk, None, _) => Err(Defect::BadLink.at(place)),
+        (Phase::Walk, Some(_), _) if link as usize != read => Err(Defect::BadLink.at(place)),
+        (_, Some(Err(defect)), _) => Err(defect.at(place)),
         (
             _,
             Some(
-                Record::Rule {
-                    value,
-                    child,
-                    sibling,
-                },
+                Ok(
+                    Record::Rule {
+                        value,
+                        child,
+                        sibling,
+                    },
+                ),
             ),
             _,
-        ) => Step::Open {
+        ) => Ok(Step::Open {
             value,
             child,
             sibling,
-        },
-        (_, Some(Record::Leaf { value, sibling }), _) => Step::Tell { value, sibling },
+        }),
+        (_, Some(Ok(Record::Leaf { value, sibling })), _) => Ok(Step::Tell { value, sibling }),
     }
 }
 
-fn fault(defect: Defect, place: usize) -> Finish
-    ensures { result ≡ Finish.Fault defect place }
-{
-    Finish::Fault { defect, place }
-}
-
 // The next step, and the part of the table behind the next record.
-pub(crate) fn next_step(phase: Phase, unread: &[u8], link: u16, read: usize) -> (Step, &[u8])
+pub(crate) fn next_step(
+    phase: Phase,
+    unread: &[u8],
+    link: u16,
+    read: usize,
+) -> Result<(Step, &[u8]), Fault>
     requires { 8 * read ≤ 64000 }
-    ensures { Decided phase read unread.now link result.0 result.1.now }
+    ensures { Decided phase read unread.now link result }
 {
     let (record, rest) = split_record(unread);
-    (decide(phase, record, link, read), rest)
+    Ok((decide(phase, record, link, read)?, rest))
 }

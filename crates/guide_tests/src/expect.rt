@@ -1,34 +1,34 @@
 // What a guide is expected to answer.
-use guide::{Answer, Defect, Event, Finish, Guide};
+use guide::{Defect, Event, Fault, Guide};
 use std::process::Abort;
 
 // These events, one by one.
 pub(crate) fn tells<G: Guide>(rt: &impl Abort, guide: &mut G, events: &[Event]) {
     for event in events {
-        assert!(rt; guide.next() == Answer::Next(*event));
+        assert!(rt; guide.next() == Ok(Some(*event)));
     }
 }
 
 // The same event so many times.
 pub(crate) fn tells_often<G: Guide>(rt: &impl Abort, guide: &mut G, event: Event, times: usize) {
     for _ in 0..times {
-        assert!(rt; guide.next() == Answer::Next(event));
+        assert!(rt; guide.next() == Ok(Some(event)));
     }
 }
 
-// The finish, and again and again the same.
-fn finishes<G: Guide>(rt: &impl Abort, guide: &mut G, finish: Finish) {
+// The end or the fault, and again and again the same.
+fn finishes<G: Guide>(rt: &impl Abort, guide: &mut G, finish: Result<Option<Event>, Fault>) {
     for _ in 0..3 {
-        assert!(rt; guide.next() == Answer::Done(finish));
+        assert!(rt; guide.next() == finish);
     }
 }
 
 pub(crate) fn ends<G: Guide>(rt: &impl Abort, guide: &mut G) {
-    finishes(rt, guide, Finish::End);
+    finishes(rt, guide, Ok(None));
 }
 
 pub(crate) fn faults<G: Guide>(rt: &impl Abort, guide: &mut G, defect: Defect, place: usize) {
-    finishes(rt, guide, Finish::Fault { defect, place });
+    finishes(rt, guide, Err(Fault { defect, place }));
 }
 
 #[test]

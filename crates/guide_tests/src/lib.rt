@@ -1,4 +1,4 @@
-// Tests of the stack and of the two readers of guides.
+// Tests of the stack and of the readers of guides.
 #![tactic(auto)]
 
 #[cfg(test)]
@@ -9,3 +9,5 @@ mod link_tables;
 mod listings;
 #[cfg(test)]
 mod stacks;
+#[cfg(test)]
+mod written;

@@ -2,79 +2,35 @@
 use crate::expect::{ends, faults, tells, tells_often};
 use guide::link_table::LinkTable;
 use guide::{Defect, Event};
+use second_checker::writing::{Record, seven_at_five, write_records};
 use std::alloc::{AllocError, Global};
 use std::process::Abort;
 use std::test::Fail;
 
-// A record as its writer thinks of it, field by field.
-#[derive(Clone, Copy)]
-struct Fields {
-    kind: u8,
-    zero: u8,
-    value: u16,
-    child: u16,
-    sibling: u16,
-}
-
-fn rule(value: u16, child: u16, sibling: u16) -> Fields {
-    Fields {
-        kind: 1,
-        zero: 0,
-        value,
-        child,
-        sibling,
-    }
-}
-
-fn leaf(value: u16, sibling: u16) -> Fields {
-    Fields {
-        kind: 2,
-        zero: 0,
-        value,
-        child: 0,
-        sibling,
-    }
-}
-
-fn add(table: &mut Vec<u8>, fields: Fields) -> Result<(), AllocError> {
-    table.extend_from_slice(&[fields.kind, fields.zero])?;
-    table.extend_from_slice(&fields.value.to_be_bytes())?;
-    table.extend_from_slice(&fields.child.to_be_bytes())?;
-    table.extend_from_slice(&fields.sibling.to_be_bytes())
-}
-
-fn table_of(heap: Global, records: &[Fields]) -> Result<Vec<u8>, AllocError> {
-    let mut table = Vec::new(heap);
-    for fields in records {
-        add(&mut table, *fields)?;
-    }
-    Ok(table)
-}
-
 // So many rule records, each the only child of the one before, and one last record as the child of the last.
-fn chain(heap: Global, depth: u16, last: Fields) -> Result<Vec<u8>, AllocError> {
-    let mut table = Vec::new(heap);
+fn chain(heap: Global, depth: u16, last: Record) -> Result<Vec<u8>, AllocError> {
+    let mut records = Vec::new(heap);
     for n in 0..depth {
-        add(&mut table, rule(0, n + 1, 0))?;
+        records.push(Record::rule(0, n + 1, 0))?;
     }
-    add(&mut table, last)?;
-    Ok(table)
+    records.push(last)?;
+    write_records(heap, records.as_slice())
 }
 
 // A root with so many leaves.
 fn wide(heap: Global, leaves: u16) -> Result<Vec<u8>, AllocError> {
-    let mut table = Vec::new(heap);
-    add(&mut table, rule(0, 1, 0))?;
+    let mut records = Vec::new(heap);
+    records.push(Record::rule(0, 1, 0))?;
     for n in 1..leaves {
-        add(&mut table, leaf(55, n + 1))?;
+        records.push(Record::leaf(55, n + 1))?;
     }
-    add(&mut table, leaf(55, 0))?;
-    Ok(table)
+    records.push(Record::leaf(55, 0))?;
+    write_records(heap, records.as_slice())
 }
 
 // The events are told, and then the walk ends.
-fn told(rt: &impl Abort, heap: Global, records: &[Fields], events: &[Event]) -> Result<(), Fail> {
-    let bytes = table_of(heap, records)?;
+fn told(rt: &impl Abort, heap: Global, records: &[Record], events: &[Event]) -> Result<(), Fail> {
+    let bytes = write_records(heap, records)?;
     let mut table = LinkTable::new(bytes.as_slice());
     tells(rt, &mut table, events);
     ends(rt, &mut table);
@@ -85,29 +41,16 @@ fn told(rt: &impl Abort, heap: Global, records: &[Fields], events: &[Event]) -> 
 fn refused(
     rt: &impl Abort,
     heap: Global,
-    records: &[Fields],
+    records: &[Record],
     events: &[Event],
     defect: Defect,
     place: usize,
 ) -> Result<(), Fail> {
-    let bytes = table_of(heap, records)?;
+    let bytes = write_records(heap, records)?;
     let mut table = LinkTable::new(bytes.as_slice());
     tells(rt, &mut table, events);
     faults(rt, &mut table, defect, place);
     Ok(())
-}
-
-// The seven nodes of 7@5; `sibling` is the link of record 2.
-fn seven_at_five(sibling: u16) -> [Fields; 7] {
-    [
-        rule(0, 1, 0),
-        rule(2, 2, 0),
-        rule(3, 3, sibling),
-        leaf(55, 0),
-        leaf(64, 5),
-        rule(3, 6, 0),
-        leaf(53, 0),
-    ]
 }
 
 #[test]
@@ -155,7 +98,7 @@ fn links_that_go_back_or_out_of_the_table(rt: HostRuntime) -> Result<(), Fail> {
     refused(
         &rt,
         heap,
-        &[rule(0, 1, 0), rule(1, 1, 0)],
+        &[Record::rule(0, 1, 0), Record::rule(1, 1, 0)],
         &events,
         Defect::BadLink,
         16,
@@ -164,7 +107,7 @@ fn links_that_go_back_or_out_of_the_table(rt: HostRuntime) -> Result<(), Fail> {
     refused(
         &rt,
         heap,
-        &[rule(0, 1, 0), rule(1, 2, 0)],
+        &[Record::rule(0, 1, 0), Record::rule(1, 2, 0)],
         &events,
         Defect::BadLink,
         16,
@@ -173,7 +116,7 @@ fn links_that_go_back_or_out_of_the_table(rt: HostRuntime) -> Result<(), Fail> {
     refused(
         &rt,
         heap,
-        &[rule(0, 65_535, 0)],
+        &[Record::rule(0, 65_535, 0)],
         &[Event::Enter(0)],
         Defect::BadLink,
         8,
@@ -184,49 +127,54 @@ fn links_that_go_back_or_out_of_the_table(rt: HostRuntime) -> Result<(), Fail> {
 #[test]
 fn records_out_of_form(rt: HostRuntime) -> Result<(), Fail> {
     let bad = [
-        Fields {
+        Record {
             kind: 0,
-            ..rule(0, 0, 0)
+            ..Record::rule(0, 0, 0)
         },
-        Fields {
+        Record {
             kind: 3,
-            ..leaf(0, 0)
+            ..Record::leaf(0, 0)
         },
-        Fields {
+        Record {
             zero: 1,
-            ..rule(0, 0, 0)
+            ..Record::rule(0, 0, 0)
         },
-        Fields {
+        Record {
             zero: 1,
-            ..leaf(0, 0)
+            ..Record::leaf(0, 0)
         },
-        rule(10_000, 0, 0),
-        leaf(256, 0),
-        Fields {
+        Record::rule(10_000, 0, 0),
+        Record::leaf(256, 0),
+        Record {
             child: 1,
-            ..leaf(0, 0)
+            ..Record::leaf(0, 0)
         },
     ];
-    for fields in bad.iter() {
-        refused(&rt, rt.alloc(), &[*fields], &[], Defect::BadRecord, 0)?;
+    for record in bad.iter() {
+        refused(&rt, rt.alloc(), &[*record], &[], Defect::BadRecord, 0)?;
     }
     told(
         &rt,
         rt.alloc(),
-        &[rule(9_999, 0, 0)],
+        &[Record::rule(9_999, 0, 0)],
         &[Event::Enter(9_999), Event::Leave],
     )?;
-    told(&rt, rt.alloc(), &[leaf(255, 0)], &[Event::Byte(255)])
+    told(
+        &rt,
+        rt.alloc(),
+        &[Record::leaf(255, 0)],
+        &[Event::Byte(255)],
+    )
 }
 
 #[test]
 fn a_wrong_link_is_asked_before_its_record(rt: HostRuntime) -> Result<(), Fail> {
-    let bad = leaf(256, 0);
+    let bad = Record::leaf(256, 0);
     let enter = [Event::Enter(0)];
     refused(
         &rt,
         rt.alloc(),
-        &[rule(0, 2, 0), bad, bad],
+        &[Record::rule(0, 2, 0), bad, bad],
         &enter,
         Defect::BadLink,
         8,
@@ -234,7 +182,7 @@ fn a_wrong_link_is_asked_before_its_record(rt: HostRuntime) -> Result<(), Fail> 
     refused(
         &rt,
         rt.alloc(),
-        &[rule(0, 1, 0), bad, bad],
+        &[Record::rule(0, 1, 0), bad, bad],
         &enter,
         Defect::BadRecord,
         8,
@@ -244,12 +192,17 @@ fn a_wrong_link_is_asked_before_its_record(rt: HostRuntime) -> Result<(), Fail> 
 #[test]
 fn roots_with_siblings_and_leaves_as_roots(rt: HostRuntime) -> Result<(), Fail> {
     let events = [Event::Enter(0), Event::Leave, Event::Enter(2), Event::Leave];
-    told(&rt, rt.alloc(), &[rule(0, 0, 1), rule(2, 0, 0)], &events)?;
-    told(&rt, rt.alloc(), &[leaf(55, 0)], &[Event::Byte(55)])?;
     told(
         &rt,
         rt.alloc(),
-        &[leaf(55, 1), leaf(56, 0)],
+        &[Record::rule(0, 0, 1), Record::rule(2, 0, 0)],
+        &events,
+    )?;
+    told(&rt, rt.alloc(), &[Record::leaf(55, 0)], &[Event::Byte(55)])?;
+    told(
+        &rt,
+        rt.alloc(),
+        &[Record::leaf(55, 1), Record::leaf(56, 0)],
         &[Event::Byte(55), Event::Byte(56)],
     )
 }
@@ -260,7 +213,7 @@ fn records_left_unread(rt: HostRuntime) -> Result<(), Fail> {
     refused(
         &rt,
         rt.alloc(),
-        &[rule(0, 0, 0), leaf(55, 0)],
+        &[Record::rule(0, 0, 0), Record::leaf(55, 0)],
         &events,
         Defect::RecordsUnread,
         8,
@@ -268,7 +221,7 @@ fn records_left_unread(rt: HostRuntime) -> Result<(), Fail> {
     refused(
         &rt,
         rt.alloc(),
-        &[leaf(55, 0), leaf(256, 0)],
+        &[Record::leaf(55, 0), Record::leaf(256, 0)],
         &[Event::Byte(55)],
         Defect::RecordsUnread,
         8,
@@ -316,7 +269,7 @@ fn one_record_too_many(rt: HostRuntime) -> Result<(), Fail> {
 
 #[test]
 fn the_deepest_walk(rt: HostRuntime) -> Result<(), Fail> {
-    let bytes = chain(rt.alloc(), 256, leaf(55, 0))?;
+    let bytes = chain(rt.alloc(), 256, Record::leaf(55, 0))?;
     let mut table = LinkTable::new(bytes.as_slice());
     tells_often(&rt, &mut table, Event::Enter(0), 256);
     tells(&rt, &mut table, &[Event::Byte(55)]);
@@ -328,11 +281,11 @@ fn the_deepest_walk(rt: HostRuntime) -> Result<(), Fail> {
 // Behind 256 open nodes: a rule record is one too many, and out of form before that.
 #[test]
 fn one_node_too_deep(rt: HostRuntime) -> Result<(), Fail> {
-    let bytes = chain(rt.alloc(), 256, rule(0, 0, 0))?;
+    let bytes = chain(rt.alloc(), 256, Record::rule(0, 0, 0))?;
     let mut table = LinkTable::new(bytes.as_slice());
     tells_often(&rt, &mut table, Event::Enter(0), 256);
     faults(&rt, &mut table, Defect::TooManyOpen, 2_048);
-    let bytes = chain(rt.alloc(), 256, rule(10_000, 0, 0))?;
+    let bytes = chain(rt.alloc(), 256, Record::rule(10_000, 0, 0))?;
     let mut table = LinkTable::new(bytes.as_slice());
     tells_often(&rt, &mut table, Event::Enter(0), 256);
     faults(&rt, &mut table, Defect::BadRecord, 2_048);

@@ -1,13 +1,12 @@
 -- A change of what is under one number keeps the memory's invariant, and changes no other text.
-use Rattle.std.proofs.Common.{◌≡◌, ℕ, ◌+◌, ◌<◌, ◌≤◌, false, eqb, List, length, get_or, take, set, Some, None, Option, sym, refl, ap, ◌∙◌, inl, inr, arith}
+use Rattle.std.proofs.Common.{◌≡◌, ℕ, ◌+◌, ◌<◌, ◌≤◌, eqb, List, length, get_or, take, set, Some, None, Option, sym, refl, ap, ◌∙◌, inl, inr, arith}
 use Rattle.std.specs.Option.{option_map}
 use Rattle.std.specs.Map.{update}
-use Rattle.std.proofs.lemmas.List.{get_or-set_same, get_or-set_other, get_or_past, length-set, length-take}
-use Rattle.std.proofs.lemmas.Bool.{cases_eq, cases_lt}
+use Rattle.std.proofs.lemmas.List.{get_or-set_same, get_or-set_other, length-set}
+use Rattle.std.proofs.lemmas.Bool.{cases_eq}
 use Rattle.std.proofs.lemmas.Map.{update_here, update_apart}
-use Rattle.std.proofs.lemmas.Bool.Decides.{nat_tests}
-use Rattle.memory.specs.Texts.{Texts, need, is_number}
-use Rattle.memory.specs.Blocks.{gathered, owned, released, texts_in, Noted, Owns, Rest, Placed}
+use Rattle.memory.specs.Texts.{Texts, need}
+use Rattle.memory.specs.Blocks.{gathered, owned, unused, released, texts_in, Noted, Owns, Rest, Placed}
 use Rattle.memory.specs.declared.blocks.Blocks.{Blocks}
 use Rattle.memory.proofs.Sums.{sum_to_change}
 use Rattle.memory.proofs.Owners.{released_gathered, released_owned, released_own, released_unused}
@@ -16,53 +15,23 @@ abbrev pub texts_of : Blocks → Texts
 texts_of s = texts_in s.blocks s.owners s.lengths
 
 -- what blocks, owners and lengths owe to be a memory
-pub record Fit (bs : List (List ℕ)) (os : List ℕ) (ls : List (Option ℕ)) : Type 0 where
+pub record Fit (bs : List (List ℕ)) (os : List (Option ℕ)) (ls : List (Option ℕ)) : Type 0 where
   pub sized : length ls ≡ 121
   pub unnumbered : get_or ls 0 None ≡ None
   pub noted : Noted bs os ls
   pub owns : Owns bs os ls
   pub rest : Rest bs os ls
 
-none_past : (s : Blocks) (n : ℕ) → 120 < n → texts_of s n ≡ None
-none_past s n h = simp (get_or_past s.lengths n None (omega (arith, s.sized)))
-
-none_under_0 : (s : Blocks) (n : ℕ) → n ≡ 0 → texts_of s n ≡ None
-none_under_0 s n e = simp (e, s.unnumbered)
-
--- what is no number has no text
-pub none_unnumbered : (s : Blocks) (n : ℕ) → is_number n ≡ false → texts_of s n ≡ None
-none_unnumbered s n e =
-    elim (cases_lt 120 n) [
-      | inl h ↦ none_past s n h
-      | inr h ↦ none_under_0 s n (grind (arith, nat_tests))
-    ]
-
--- a number with a text of k bytes
-module _ (s : Blocks) (n k : ℕ) (h : option_map (λ (t : List ℕ). length t) (texts_of s n) ≡ Some k) where
-  held_noted : get_or s.lengths n None ≡ Some k
-  held_noted = sym (s.noted n) ∙ h
-
-  pub held_text : texts_of s n ≡ Some (take k (gathered n s.owners s.blocks))
-  held_text = simp held_noted
-
-  pub held_long : k ≤ length (gathered n s.owners s.blocks)
-  held_long =
-      let e = ap (option_map (λ (t : List ℕ). length t)) held_text in
-      let f : length (take k (gathered n s.owners s.blocks)) ≡ k = cc in
-      let t = length-take k (gathered n s.owners s.blocks) in
-      omega arith
-
 -- what is under n becomes t, its length l, the owners os, and the blocks bs
-pub record Changed (s : Blocks) (n : ℕ) (t : Option (List ℕ)) (l : Option ℕ) (os : List ℕ) (bs : List (List ℕ)) : Type 0 where
+pub record Changed (s : Blocks) (n : ℕ) (t : Option (List ℕ)) (l : Option ℕ) (os : List (Option ℕ)) (bs : List (List ℕ)) : Type 0 where
   pub numbered : (0 < n) × (n ≤ 120)
-  pub others : (m : ℕ) → (m ≡ n → ⊥) → (m ≡ 0 → ⊥)
-      → (gathered m os bs ≡ gathered m s.owners s.blocks) × (owned m os ≡ owned m s.owners)
+  pub others : (m : ℕ) → (m ≡ n → ⊥) → (gathered m os bs ≡ gathered m s.owners s.blocks) × (owned m os ≡ owned m s.owners)
   pub text : option_map (λ k. take k (gathered n os bs)) l ≡ t
   pub noted : option_map (λ (x : List ℕ). length x) t ≡ l
   pub own : owned n os ≡ need t
-  pub balance : need t + owned 0 os ≡ need (texts_of s n) + owned 0 s.owners
+  pub balance : need t + unused os ≡ need (texts_of s n) + unused s.owners
 
-module _ {s : Blocks} {n : ℕ} {t : Option (List ℕ)} {l : Option ℕ} {os : List ℕ} {bs : List (List ℕ)} (c : Changed s n t l os bs) where
+module _ {s : Blocks} {n : ℕ} {t : Option (List ℕ)} {l : Option ℕ} {os : List (Option ℕ)} {bs : List (List ℕ)} (c : Changed s n t l os bs) where
   abbrev lengths : List (Option ℕ)
   lengths = set s.lengths n l
 
@@ -76,11 +45,7 @@ module _ {s : Blocks} {n : ℕ} {t : Option (List ℕ)} {l : Option ℕ} {os : L
   text_here = ap (option_map (λ k. take k (gathered n os bs))) length_here ∙ c.text
 
   text_there : (m : ℕ) → (m ≡ n → ⊥) → texts_in bs os lengths m ≡ texts_of s m
-  text_there m ne =
-      elim (cases_eq m 0) [
-        | inl z ↦ let a : get_or s.lengths m None ≡ None = simp (z, s.unnumbered) in simp (length_there m ne, a)
-        | inr nz ↦ simp (length_there m ne, (c.others m ne nz).0)
-      ]
+  text_there m ne = simp (length_there m ne, (c.others m ne).0)
 
   noted_after : Noted bs os lengths
   noted_after m =
@@ -90,10 +55,10 @@ module _ {s : Blocks} {n : ℕ} {t : Option (List ℕ)} {l : Option ℕ} {os : L
       ]
 
   owns_after : Owns bs os lengths
-  owns_after m h =
+  owns_after m =
       elim (cases_eq m n) [
         | inl e ↦ rw e (c.own ∙ ap need (sym text_here))
-        | inr ne ↦ (c.others m ne (λ z. omega arith)).1 ∙ s.owns m h ∙ ap need (sym (text_there m ne))
+        | inr ne ↦ (c.others m ne).1 ∙ s.owns m ∙ ap need (sym (text_there m ne))
       ]
 
   rest_after : Rest bs os lengths
@@ -120,29 +85,25 @@ module _ {s : Blocks} {n : ℕ} {t : Option (List ℕ)} {l : Option ℕ} {os : L
       ]
 
 -- n's text is struck out
-pub struck : (s : Blocks) (n : ℕ) → 0 < n → n ≤ 120 → (os : List ℕ) → os ≡ released n s.owners → Changed s n None None os s.blocks
+pub struck : (s : Blocks) (n : ℕ) → 0 < n → n ≤ 120 → (os : List (Option ℕ)) → os ≡ released n s.owners → Changed s n None None os s.blocks
 struck s n numbered low os e =
     rw e record {
       numbered = (numbered, low);
-      others = λ m x y. (released_gathered n numbered m x y s.owners s.blocks, released_owned n numbered m x y s.owners);
+      others = λ m x. (released_gathered n m x s.owners s.blocks, released_owned n m x s.owners);
       text = refl;
       noted = refl;
-      own = released_own n numbered s.owners;
-      balance = let a = released_unused n numbered s.owners in let b = s.owns n numbered in omega arith;
+      own = released_own n s.owners;
+      balance = let a = released_unused n s.owners in let b = s.owns n in omega arith;
     }
 
--- n had no text
-module _ (s : Blocks) (n : ℕ) (numbered : 0 < n) (unused : texts_of s n ≡ None) where
-  pub unused_owned : owned n s.owners ≡ 0
-  unused_owned = s.owns n numbered ∙ ap need unused
-
-  -- the text t is placed for it
-  pub stored : n ≤ 120 → (t os : List ℕ) (bs : List (List ℕ)) → Placed n t s.owners s.blocks os bs → Changed s n (Some t) (Some (length t)) os bs
-  stored low t os bs p = record {
-    numbered = (numbered, low);
-    others = p.others;
-    text = ap Some p.own;
-    noted = refl;
-    own = p.count;
-    balance = let z = ap need unused in let a = p.taken in let b = p.count in omega arith;
-  }
+-- n had no text, and the text t is placed for it
+pub stored : (s : Blocks) (n : ℕ) → texts_of s n ≡ None → 0 < n → n ≤ 120 → (t : List ℕ) (os : List (Option ℕ)) (bs : List (List ℕ))
+    → Placed n t s.owners s.blocks os bs → Changed s n (Some t) (Some (length t)) os bs
+stored s n none numbered low t os bs p = record {
+  numbered = (numbered, low);
+  others = p.others;
+  text = ap Some p.own;
+  noted = refl;
+  own = p.count;
+  balance = let z = ap need none in let a = p.taken in let b = p.count in omega arith;
+}

@@ -4,3 +4,4 @@ mod Gather
 mod Place
 mod Change
 pub mod Room
+mod Calls

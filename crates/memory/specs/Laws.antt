@@ -1,6 +1,6 @@
 -- What is proved of every memory, whatever its blocks hold.
-use Rattle.std.specs.Prelude.{◌≡◌, ℕ, ◌+◌, ◌≤◌, true, List, [], length, Some, None}
-use Rattle.memory.specs.Texts.{Texts, blocks_for, no_texts, holding, without, needs, free, is_number, storable}
+use Rattle.std.specs.Prelude.{◌≡◌, ℕ, ◌+◌, ◌≤◌, true, List, [], length, is_some, is_ok, Some, None}
+use Rattle.memory.specs.Texts.{Texts, blocks_for, no_texts, holding, without, needs, free, is_number, may_store, may_strike, may_copy, storable, copyable}
 
 -- nothing needs no block, a whole block's bytes need that block, and one byte more needs another
 abbrev pub NeedsOf0_64And65Bytes : Type 0
@@ -32,3 +32,9 @@ abbrev pub SameTextsSameRoom : Type 0
 SameTextsSameRoom =
     (blocks : ℕ) (s s' : Texts) → ((n : ℕ) → is_number n ≡ true → s n ≡ s' n)
     → (free blocks s ≡ free blocks s') × ((n : ℕ) (t : List ℕ) → storable blocks s n t ≡ storable blocks s' n t)
+
+-- a text is stored exactly where it can be, struck out exactly where there is one, and copied exactly where there is one and room for it
+pub record DoneWherePossible (blocks : ℕ) (s : Texts) : Type 0 where
+  pub stored : (n : ℕ) (t : List ℕ) → is_ok (may_store blocks s n (length t)) ≡ storable blocks s n t
+  pub struck : (n : ℕ) → is_ok (may_strike s n) ≡ is_some (s n)
+  pub copied : (n room : ℕ) → is_ok (may_copy s n room) ≡ copyable (s n) room

@@ -1,6 +1,8 @@
 -- What a memory means: under each number a text, perhaps empty, or none. How many of its blocks the texts need, and what each call answers.
-use Rattle.std.specs.Prelude.{ℕ, zero, suc, ◌+◌, ◌-◌, ◌/◌, Bool, false, cond, not, ◌&&◌, List, ◌++◌, length, drop, is_some, Some, None, Option, nat_eq, nat_le, nat_lt}
+use Rattle.std.specs.Prelude.{ℕ, zero, suc, ◌+◌, ◌-◌, ◌/◌, Bool, true, false, cond, not, ◌&&◌, List, ◌++◌, length, drop, is_some, Some, None, Option, Ok, Err, Result, nat_eq, nat_le, nat_lt}
 use Rattle.std.specs.Map.{update}
+use Rattle.memory.specs.declared.Refusal.{Refusal}
+use Rattle.memory.specs.declared.Refusal.TheVariants.{NumberOutside, AlreadyHeld, TextTooLong, NoRoom, NotHeld, BufferTooShort}
 
 -- the blocks that a text of n bytes needs: one for each 64 bytes or part of 64
 abbrev pub blocks_for : ℕ → ℕ
@@ -51,6 +53,41 @@ free blocks s = blocks - needs s
 -- is n a number for texts?
 abbrev pub is_number : ℕ → Bool
 is_number n = nat_lt 0 n && nat_le n last_number
+
+-- the number under which a refusal is reported
+abbrev pub refusal_number : Refusal → ℕ
+refusal_number NumberOutside = 1
+refusal_number AlreadyHeld = 2
+refusal_number TextTooLong = 3
+refusal_number NoRoom = 4
+refusal_number NotHeld = 14
+refusal_number BufferTooShort = 15
+
+-- a question: the refusal where the answer is no, else what is asked next
+abbrev pub ask : {A : Type 0} → Bool → Refusal → Result A Refusal → Result A Refusal
+ask true why next = next
+ask false why next = Err why
+
+-- may a text of so many bytes be stored under n? If not, the first no of what is asked
+abbrev pub may_store : ℕ → Texts → ℕ → ℕ → Result Unit Refusal
+may_store blocks s n bytes =
+    ask (is_number n) NumberOutside
+    (ask (not (is_some (s n))) AlreadyHeld
+    (ask (nat_le bytes longest_text) TextTooLong
+    (ask (nat_le (blocks_for bytes) (free blocks s)) NoRoom (Ok tt))))
+
+-- may the text under n be struck out?
+abbrev pub may_strike : Texts → ℕ → Result Unit Refusal
+may_strike s n = ask (is_number n) NumberOutside (ask (is_some (s n)) NotHeld (Ok tt))
+
+-- how many bytes of what is under one number may be copied to a buffer of so many?
+abbrev pub may_copy_text : Option (List ℕ) → ℕ → Result ℕ Refusal
+may_copy_text None room = Err NotHeld
+may_copy_text (Some t) room = ask (nat_le (length t) room) BufferTooShort (Ok (length t))
+
+-- the same of what is under n
+abbrev pub may_copy : Texts → ℕ → ℕ → Result ℕ Refusal
+may_copy s n room = ask (is_number n) NumberOutside (may_copy_text (s n) room)
 
 -- can t be stored under n: is n a number without a text, t not too long, and are there as many blocks left as it needs?
 abbrev pub storable : ℕ → Texts → ℕ → List ℕ → Bool

@@ -1,12 +1,13 @@
 // Memories for texts: what each must answer, how many blocks a text needs, and the memory of 512 blocks.
 #![tactic(auto)]
 
-ghost use Rattle.std.specs.Prelude.{◌≡◌, ℕ, ◌+◌, ◌≤◌, length, is_some, if◌then◌else◌};
+ghost use Rattle.std.specs.Prelude.{◌≡◌, ℕ, ◌+◌, ◌≤◌, false, length, is_ok, None, if◌then◌else◌};
 ghost use Rattle.std.specs.Option.{option_map};
-ghost use Rattle.memory.specs.Texts.{Texts, blocks_for, holding, without, needs, free, is_number, storable, copyable, copied};
-ghost use Rattle.memory.specs.Laws.{NeedsOf0_64And65Bytes, EmptyTextIsNotNone, EmptyMemoryIsAllFree, StoredTextTakesItsBlocks, StruckTextGivesItsBlocksBack, SameTextsSameRoom};
+ghost use Rattle.memory.specs.Texts.{Texts, blocks_for, holding, without, needs, free, is_number, refusal_number, may_store, may_strike, may_copy, copied};
+ghost use Rattle.memory.specs.Laws.{NeedsOf0_64And65Bytes, EmptyTextIsNotNone, EmptyMemoryIsAllFree, StoredTextTakesItsBlocks, StruckTextGivesItsBlocksBack, SameTextsSameRoom, DoneWherePossible};
 
 pub mod blocks;
+mod number;
 
 // Texts are held under the numbers from 1 to this.
 pub const LAST_NUMBER: u16 = 120;
@@ -21,7 +22,7 @@ const BLOCK_BYTES: usize = 64;
 pub fn is_number(number: u16) -> bool
     ensures { result ≡ is_number number }
 {
-    0 < number && number <= LAST_NUMBER
+    (1..=LAST_NUMBER).contains(&number)
 }
 
 // How many blocks a text of so many bytes needs.
@@ -31,8 +32,35 @@ pub fn blocks_for(bytes: usize) -> usize
     bytes.div_ceil(BLOCK_BYTES)
 }
 
+// The question that was the first to be answered no.
+#[derive(Clone, Copy, Debug, PartialEq, Eq)]
+pub enum Refusal {
+    NumberOutside,
+    AlreadyHeld,
+    TextTooLong,
+    NoRoom,
+    NotHeld,
+    BufferTooShort,
+}
+
+impl Refusal {
+    // The number under which it is reported.
+    pub fn number(self) -> u8
+        ensures { result ≡ refusal_number self }
+    {
+        match self {
+            Refusal::NumberOutside => 1,
+            Refusal::AlreadyHeld => 2,
+            Refusal::TextTooLong => 3,
+            Refusal::NoRoom => 4,
+            Refusal::NotHeld => 14,
+            Refusal::BufferTooShort => 15,
+        }
+    }
+}
+
 // A memory by the text that it holds under each number. Which blocks a text lies in is told nowhere. No call asks anything of its
-// caller: what cannot be done is answered, and changes nothing.
+// caller: what cannot be done is refused, and changes nothing.
 pub trait Memory {
     // How many blocks it has.
     ghost block_count: { ℕ };
@@ -43,6 +71,9 @@ pub trait Memory {
     // It never holds more than its blocks have room for.
     ghost bounds: { (x : Self) → needs (texts x) ≤ block_count };
 
+    // It holds texts under numbers for texts only.
+    ghost numbered: { (x : Self) (n : ℕ) → is_number n ≡ false → texts x n ≡ None };
+
     // The length of the text under a number.
     fn length_of(&self, number: u16) -> Option<u16>
         ensures { result ≡ option_map (λ t. length t) (texts self.now number) };
@@ -51,25 +82,49 @@ pub trait Memory {
     fn free_blocks(&self) -> u16
         ensures { result ≡ free block_count (texts self.now) };
 
-    // Holds a text under a number from now on; false where that cannot be.
-    fn store(&mut self, number: u16, text: &[u8]) -> bool
-        ensures answer { result ≡ storable block_count (texts self.old) number text.now }
-        ensures held { texts self.new ≡ (if result then holding (texts self.old) number text.now else texts self.old) };
+    // Whether a text of so many bytes can be held under a number from now on.
+    fn may_store(&self, number: u16, bytes: usize) -> Result<(), Refusal>
+        ensures { result ≡ may_store block_count (texts self.now) number bytes }
+    {
+        if !is_number(number) {
+            return Err(Refusal::NumberOutside);
+        }
+        if self.length_of(number).is_some() {
+            return Err(Refusal::AlreadyHeld);
+        }
+        if bytes > LONGEST_TEXT {
+            return Err(Refusal::TextTooLong);
+        }
+        if blocks_for(bytes) > self.free_blocks() as usize {
+            return Err(Refusal::NoRoom);
+        }
+        Ok(())
+    }
 
-    // Strikes out the text under a number; false where there is none.
-    fn strike(&mut self, number: u16) -> bool
-        ensures answer { result ≡ is_some (texts self.old number) }
-        ensures held { texts self.new ≡ (if result then without (texts self.old) number else texts self.old) };
+    // Holds a text under a number from now on.
+    fn store(&mut self, number: u16, text: &[u8]) -> Result<(), Refusal>
+        ensures answer { result ≡ may_store block_count (texts self.old) number (length text.now) }
+        ensures held { texts self.new ≡ (if is_ok result then holding (texts self.old) number text.now else texts self.old) };
 
-    // Copies the text under a number to the buffer's front; false where there is none or the buffer is shorter.
-    fn copy_out(&self, number: u16, buffer: &mut [u8]) -> bool
-        ensures answer { result ≡ copyable (texts self.now number) (length buffer.old) }
+    // Strikes out the text under a number.
+    fn strike(&mut self, number: u16) -> Result<(), Refusal>
+        ensures answer { result ≡ may_strike (texts self.old) number }
+        ensures held { texts self.new ≡ (if is_ok result then without (texts self.old) number else texts self.old) };
+
+    // Copies the text under a number to the buffer's front, and answers its length.
+    fn copy_out(&self, number: u16, buffer: &mut [u8]) -> Result<usize, Refusal>
+        ensures answer { result ≡ may_copy (texts self.now) number (length buffer.old) }
         ensures copy { buffer.new ≡ copied (texts self.now number) buffer.old };
 }
 
 // What the texts need and what is free are together every block.
 pub fn needs_and_free_are_all<M: Memory>(memory: &M)
     ensures { needs (M.Memory.texts memory.now) + free M.Memory.block_count (M.Memory.texts memory.now) ≡ M.Memory.block_count }
+{}
+
+// No call is refused without need.
+pub fn calls_are_done_where_possible<M: Memory>(memory: &M)
+    ensures { DoneWherePossible M.Memory.block_count (M.Memory.texts memory.now) }
 {}
 
 // No bytes need no block, a block's bytes need one, and a byte more needs two.

@@ -3,21 +3,18 @@
 
 #[cfg(test)]
 mod tests {
-    use memory::Memory;
     use memory::blocks::Blocks;
+    use memory::{Memory, Refusal};
     use std::alloc::{AllocError, Global};
     use std::process::Abort;
     use std::test::Fail;
 
     // The bytes of a text of some length, other bytes for each number.
     fn text_for(heap: Global, number: u16, length: usize) -> Result<Vec<u8>, AllocError> {
-        let mut text = vec![in heap; 0u8; length]?;
-        let mut next = number;
-        for byte in text.iter_mut() {
-            *byte = (next % 251) as u8;
-            next = next.wrapping_add(1);
-        }
-        Ok(text)
+        let first = usize::from(number);
+        (first..first.saturating_add(length))
+            .map(|next| (next % 251) as u8)
+            .collect(heap)
     }
 
     fn store(
@@ -25,7 +22,7 @@ mod tests {
         memory: &mut Blocks,
         number: u16,
         length: usize,
-    ) -> Result<bool, AllocError> {
+    ) -> Result<Result<(), Refusal>, AllocError> {
         let text = text_for(heap, number, length)?;
         Ok(memory.store(number, &text))
     }
@@ -42,7 +39,7 @@ mod tests {
         expected.extend_from_slice(b"behind")?;
         let mut buffer = vec![in heap; 0u8; length]?;
         buffer.extend_from_slice(b"behind")?;
-        assert!(rt; memory.copy_out(number, &mut buffer));
+        assert_eq!(rt; memory.copy_out(number, &mut buffer), Ok(length));
         assert_eq!(rt; buffer.as_slice(), expected.as_slice());
         Ok(())
     }
@@ -54,16 +51,16 @@ mod tests {
         let mut memory = Blocks::new();
         assert_eq!(rt; memory.free_blocks(), 512);
         for number in 1..101 {
-            assert!(rt; store(heap, &mut memory, number, 320)?);
+            assert_eq!(rt; store(heap, &mut memory, number, 320)?, Ok(()));
         }
-        assert!(rt; store(heap, &mut memory, 101, 768)?);
+        assert_eq!(rt; store(heap, &mut memory, 101, 768)?, Ok(()));
         assert_eq!(rt; memory.free_blocks(), 0);
-        assert!(rt; !store(heap, &mut memory, 102, 1)?);
+        assert_eq!(rt; store(heap, &mut memory, 102, 1)?, Err(Refusal::NoRoom));
         for pair in 1..51u16 {
-            assert!(rt; memory.strike(2 * pair));
+            assert_eq!(rt; memory.strike(2 * pair), Ok(()));
         }
         assert_eq!(rt; memory.free_blocks(), 250);
-        assert!(rt; store(heap, &mut memory, 102, 4_096)?);
+        assert_eq!(rt; store(heap, &mut memory, 102, 4_096)?, Ok(()));
         assert_eq!(rt; memory.free_blocks(), 186);
         expect_text(&rt, heap, &memory, 102, 4_096)?;
         expect_text(&rt, heap, &memory, 101, 768)?;
@@ -79,13 +76,13 @@ mod tests {
         let heap = rt.alloc();
         let mut memory = Blocks::new();
         assert!(rt; memory.length_of(7).is_none());
-        assert!(rt; !memory.copy_out(7, &mut []));
-        assert!(rt; memory.store(7, &[]));
+        assert_eq!(rt; memory.copy_out(7, &mut []), Err(Refusal::NotHeld));
+        assert_eq!(rt; memory.store(7, &[]), Ok(()));
         assert_eq!(rt; memory.length_of(7), Some(0));
         assert_eq!(rt; memory.free_blocks(), 512);
         expect_text(&rt, heap, &memory, 7, 0)?;
-        assert!(rt; !memory.store(7, &[]));
-        assert!(rt; memory.strike(7));
+        assert_eq!(rt; memory.store(7, &[]), Err(Refusal::AlreadyHeld));
+        assert_eq!(rt; memory.strike(7), Ok(()));
         assert!(rt; memory.length_of(7).is_none());
         Ok(())
     }
@@ -96,32 +93,32 @@ mod tests {
         let heap = rt.alloc();
         let mut memory = Blocks::new();
         for number in 1..9 {
-            assert!(rt; store(heap, &mut memory, number, 4_096)?);
+            assert_eq!(rt; store(heap, &mut memory, number, 4_096)?, Ok(()));
         }
         assert_eq!(rt; memory.free_blocks(), 0);
-        assert!(rt; !memory.store(9, b"a"));
-        assert!(rt; memory.store(9, &[]));
+        assert_eq!(rt; memory.store(9, b"a"), Err(Refusal::NoRoom));
+        assert_eq!(rt; memory.store(9, &[]), Ok(()));
         assert_eq!(rt; memory.length_of(9), Some(0));
         Ok(())
     }
 
-    // Stores one text after another: a number, a length, whether the text is stored, and the blocks then free.
+    // Stores one text after another: a number, a length, the answer, and the blocks then free.
     #[test]
     fn numbers_and_lengths(rt: HostRuntime) -> Result<(), Fail> {
         let heap = rt.alloc();
         let mut memory = Blocks::new();
-        let rows: [(u16, usize, bool, u16); 8] = [
-            (0, 1, false, 512),
-            (121, 1, false, 512),
-            (257, 1, false, 512),
-            (1, 4_097, false, 512),
-            (1, 4_096, true, 448),
-            (120, 64, true, 447),
-            (119, 65, true, 445),
-            (119, 1, false, 445),
+        let rows: [(u16, usize, Result<(), Refusal>, u16); 8] = [
+            (0, 1, Err(Refusal::NumberOutside), 512),
+            (121, 1, Err(Refusal::NumberOutside), 512),
+            (257, 1, Err(Refusal::NumberOutside), 512),
+            (1, 4_097, Err(Refusal::TextTooLong), 512),
+            (1, 4_096, Ok(()), 448),
+            (120, 64, Ok(()), 447),
+            (119, 65, Ok(()), 445),
+            (119, 1, Err(Refusal::AlreadyHeld), 445),
         ];
-        for &(number, length, stored, free) in rows.iter() {
-            assert_eq!(rt; store(heap, &mut memory, number, length)?, stored);
+        for &(number, length, answer, free) in rows.iter() {
+            assert_eq!(rt; store(heap, &mut memory, number, length)?, answer);
             assert_eq!(rt; memory.free_blocks(), free);
         }
         assert_eq!(rt; memory.length_of(119), Some(65));
@@ -132,7 +129,12 @@ mod tests {
     fn no_text_to_strike(rt: HostRuntime) {
         let mut memory = Blocks::new();
         for number in 0..123 {
-            assert!(rt; !memory.strike(number));
+            let refusal = if number == 0 || number > 120 {
+                Refusal::NumberOutside
+            } else {
+                Refusal::NotHeld
+            };
+            assert_eq!(rt; memory.strike(number), Err(refusal));
         }
         assert_eq!(rt; memory.free_blocks(), 512);
     }
@@ -141,8 +143,8 @@ mod tests {
     fn used_number_keeps_its_text(rt: HostRuntime) -> Result<(), Fail> {
         let heap = rt.alloc();
         let mut memory = Blocks::new();
-        assert!(rt; store(heap, &mut memory, 5, 100)?);
-        assert!(rt; !memory.store(5, b"other"));
+        assert_eq!(rt; store(heap, &mut memory, 5, 100)?, Ok(()));
+        assert_eq!(rt; memory.store(5, b"other"), Err(Refusal::AlreadyHeld));
         expect_text(&rt, heap, &memory, 5, 100)?;
         assert_eq!(rt; memory.free_blocks(), 510);
         Ok(())
@@ -152,13 +154,16 @@ mod tests {
     fn short_buffer_is_untouched(rt: HostRuntime) -> Result<(), Fail> {
         let heap = rt.alloc();
         let mut memory = Blocks::new();
-        assert!(rt; store(heap, &mut memory, 5, 65)?);
+        assert_eq!(rt; store(heap, &mut memory, 5, 65)?, Ok(()));
         let mut buffer = vec![in heap; b'-'; 64]?;
-        assert!(rt; !memory.copy_out(5, &mut buffer));
-        assert!(rt; !memory.copy_out(6, &mut buffer));
+        assert_eq!(rt;
+            memory.copy_out(5, &mut buffer),
+            Err(Refusal::BufferTooShort)
+        );
+        assert_eq!(rt; memory.copy_out(6, &mut buffer), Err(Refusal::NotHeld));
         assert_eq!(rt; buffer.as_slice(), vec![in heap; b'-'; 64]?.as_slice());
         let mut buffer = vec![in heap; b'-'; 65]?;
-        assert!(rt; memory.copy_out(5, &mut buffer));
+        assert_eq!(rt; memory.copy_out(5, &mut buffer), Ok(65));
         assert_eq!(rt; buffer.as_slice(), text_for(heap, 5, 65)?.as_slice());
         Ok(())
     }

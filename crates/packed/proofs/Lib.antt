@@ -1,8 +1,5 @@
-pub mod Cut
-pub mod Every
-pub mod Asked
 pub mod Rows
-pub mod Joined
+pub mod Chunked
 pub mod Written
 pub mod Read
 pub mod Encoded

@@ -10,11 +10,13 @@ use Rattle.grammar.specs.declared.Mark.{Mark}
 use Rattle.grammar.specs.declared.Mark.TheVariants.{Loose, Tight}
 use Rattle.grammar.specs.declared.Part.{Part}
 use Rattle.grammar.specs.declared.Part.TheVariants.{Symbol, Range, Except}
-use Rattle.packed.specs.Pieces.{pieces, joined}
+use Rattle.std.specs.Simd.{first_chunks}
+use Rattle.std.specs.List.{concat}
 use Rattle.packed.specs.Format.{Listed, listed_in, symbol_count, rule_count, rows, slots, padding, part_in, mark_in, rule_in}
-use Rattle.packed.specs.Check.{every, is_zero, lawful_part, lawful_head, lawful_length, lawful_header, row_fault, rows_fault, is_lawful}
+use Rattle.std.specs.List.{list_all}
+use Rattle.packed.specs.Check.{is_zero, lawful_part, lawful_head, lawful_length, lawful_header, row_fault, rows_fault, is_lawful}
 use Rattle.packed.specs.Encoding.{mark_number, part_bytes, row_bytes, table_of, FitsPart, FitsRule, FitsTable}
-use Rattle.packed.proofs.Joined.{pieces_joined, drop_joined, length_joined, mapped_back}
+use Rattle.packed.proofs.Chunked.{chunks-concat, drop-concat, length-concat, mapped_back}
 
 pair_read : (n : ℕ) → n / 256 * 256 + n % 256 ≡ n
 pair_read n = omega arith
@@ -38,11 +40,11 @@ pub all_of : {X : Type 0} (P : X → Type 0) → ((x : X) → P x) → (xs : Lis
 all_of P h [] = tt
 all_of P h (x ∷ xs) = (h x, all_of P h xs)
 
-every_map : {X Y : Type 0} (p : Y → Bool) (f : X → Y) (xs : List X) → AllByRecursion (λ x. p (f x) ≡ true) xs → every p (map f xs) ≡ true
+every_map : {X Y : Type 0} (p : Y → Bool) (f : X → Y) (xs : List X) → AllByRecursion (λ x. p (f x) ≡ true) xs → list_all p (map f xs) ≡ true
 every_map p f [] a = refl
-every_map p f (x ∷ xs) a = and_from (p (f x)) (every p (map f xs)) a.0 (every_map p f xs a.1)
+every_map p f (x ∷ xs) a = and_from (p (f x)) (list_all p (map f xs)) a.0 (every_map p f xs a.1)
 
-zeros_pass : (n : ℕ) → every is_zero (replicate n 0) ≡ true
+zeros_pass : (n : ℕ) → list_all is_zero (replicate n 0) ≡ true
 zeros_pass zero = refl
 zeros_pass (suc n) = zeros_pass n
 
@@ -58,17 +60,17 @@ all_long : (ps : List Part) → AllByRecursion (λ p. length (part_bytes p) ≡ 
 all_long = all_of (λ p. length (part_bytes p) ≡ 4) part_long
 
 row_slots : (r : Rule) → slots (row_bytes r) ≡ map part_bytes r.parts
-row_slots r = pieces_joined 4 part_bytes r.parts _ (all_long r.parts)
+row_slots r = chunks-concat 4 part_bytes r.parts _ (all_long r.parts)
 
 row_padding : (r : Rule) → padding (row_bytes r) ≡ replicate (60 - 4 * length r.parts) 0
-row_padding r = drop_joined 4 part_bytes r.parts _ (all_long r.parts)
+row_padding r = drop-concat 4 part_bytes r.parts _ (all_long r.parts)
 
 row_long : (r : Rule) → length r.parts ≤ 15 → length (row_bytes r) ≡ 64
 row_long r few =
-    let parts : List ℕ = joined (map part_bytes r.parts) in
+    let parts : List ℕ = concat (map part_bytes r.parts) in
     let rest : List ℕ = replicate (60 - 4 * length r.parts) 0 in
     let a : length (parts ++ rest) ≡ length parts + length rest = length-append parts rest in
-    let b : length parts ≡ 4 * length r.parts = length_joined 4 part_bytes r.parts (all_long r.parts) in
+    let b : length parts ≡ 4 * length r.parts = length-concat 4 part_bytes r.parts (all_long r.parts) in
     let c : length rest ≡ 60 - 4 * length r.parts = length-replicate (60 - 4 * length r.parts) 0 in
     omega arith
 
@@ -83,10 +85,10 @@ row_passes n rule r h =
     let known = le-leb (mark_number r.mark) 1 (mark_known r.mark) in
     let few = le-leb (length r.parts) 15 h.few_parts in
     let head = and_from _ _ left (and_from _ _ known few) in
-    let parts = ap (every (lawful_part n)) (row_slots r)
+    let parts = ap (list_all (lawful_part n)) (row_slots r)
     ∙ every_map (lawful_part n) part_bytes r.parts (All-weaker (FitsPart n) _ (part_passes n) r.parts h.each_part) in
-    let rest = ap (every is_zero) (row_padding r) ∙ zeros_pass (60 - 4 * length r.parts) in
-    cond-true (lawful_head n (row_bytes r)) _ _ head ∙ (cond-true (every (lawful_part n) (slots (row_bytes r))) _ _ parts ∙ cond-true (every is_zero (padding (row_bytes r))) _ _ rest)
+    let rest = ap (list_all is_zero) (row_padding r) ∙ zeros_pass (60 - 4 * length r.parts) in
+    cond-true (lawful_head n (row_bytes r)) _ _ head ∙ (cond-true (list_all (lawful_part n) (slots (row_bytes r))) _ _ parts ∙ cond-true (list_all is_zero (padding (row_bytes r))) _ _ rest)
 
 rows_pass : (n rule : ℕ) (rs : List Rule) → AllByRecursion (FitsRule n) rs → rows_fault n rule (map row_bytes rs) ≡ None
 rows_pass n rule [] a = refl
@@ -98,9 +100,9 @@ module _ (g : Listed) (h : FitsTable g) where
 
   table_rows : rows (table_of g) ≡ map row_bytes g.rules
   table_rows =
-      let all = joined (map row_bytes g.rules) in
-      ap (λ n. pieces 64 n all) (pair_read (length g.rules))
-      ∙ (ap (pieces 64 (length g.rules)) (sym (append-nil all)) ∙ pieces_joined 64 row_bytes g.rules [] rows_have_64)
+      let all = concat (map row_bytes g.rules) in
+      ap (λ n. first_chunks 64 n all) (pair_read (length g.rules))
+      ∙ (ap (first_chunks 64 (length g.rules)) (sym (append-nil all)) ∙ chunks-concat 64 row_bytes g.rules [] rows_have_64)
 
   pub table_read : listed_in (table_of g) ≡ g
   table_read =
@@ -109,7 +111,7 @@ module _ (g : Listed) (h : FitsTable g) where
 
   long_pass : lawful_length (table_of g) ≡ true
   long_pass =
-      let size = length_joined 64 row_bytes g.rules rows_have_64 in
+      let size = length-concat 64 row_bytes g.rules rows_have_64 in
       and_from _ _ (le-leb 8 (length (table_of g)) (omega arith))
       (and_from _ _ (eq-eqb (length (table_of g)) (8 + 64 * rule_count (table_of g)) (omega arith)) (le-leb (rule_count (table_of g)) 1000 (omega (arith, h.few_rules))))
 

@@ -6,12 +6,14 @@ use Rattle.std.proofs.lemmas.List.{drop_all, length-map}
 use Rattle.std.proofs.lemmas.Bool.{cond_both, and_parts, eqb-true}
 use Rattle.grammar.specs.Meaning.{LawfulPart}
 use Rattle.grammar.specs.declared.Part.TheVariants.{Symbol, Range, Except}
-use Rattle.packed.specs.Pieces.{joined, length_pieces}
+use Rattle.std.specs.List.{concat}
+use Rattle.packed.specs.Chunks.{length_chunks}
 use Rattle.packed.specs.Format.{byte_at, listed_in, symbol_count, rule_count, rows, mark_byte, part_count, slots, padding, part_in, mark_in, rule_in}
-use Rattle.packed.specs.Check.{every, is_zero, lawful_part}
-use Rattle.packed.specs.Bounds.{LawfulRow, LawfulTable, all_every, part_lawful}
+use Rattle.std.specs.List.{list_all}
+use Rattle.packed.specs.Check.{is_zero, lawful_part}
+use Rattle.packed.specs.Bounds.{LawfulRow, LawfulTable, all_passed, part_lawful}
 use Rattle.packed.specs.Encoding.{IsByte, mark_number, part_bytes, row_bytes, table_of, FitsPart, FitsRule, FitsTable}
-use Rattle.packed.proofs.Joined.{joined_pieces, all_pieces, pieces_whole, mapped_back, elements, elements_first}
+use Rattle.packed.proofs.Chunked.{concat-chunks, all_chunks, chunks_whole, mapped_back, elements, elements_first}
 
 byte_below : (xs : List ℕ) → AllByRecursion IsByte xs → (i : ℕ) → get_or xs i 0 < 256
 byte_below [] a i = omega arith
@@ -58,12 +60,12 @@ mark_written zero h = refl
 mark_written (suc zero) h = refl
 mark_written (suc (suc m)) h = absurd (omega arith)
 
-zeros_are : (xs : List ℕ) (n : ℕ) → length xs ≡ n → every is_zero xs ≡ true → replicate n 0 ≡ xs
+zeros_are : (xs : List ℕ) (n : ℕ) → length xs ≡ n → list_all is_zero xs ≡ true → replicate n 0 ≡ xs
 zeros_are [] zero l e = refl
 zeros_are [] (suc n) l e = absurd (omega arith)
 zeros_are (x ∷ xs) zero l e = absurd (omega arith)
 zeros_are (x ∷ xs) (suc n) l e =
-    let a = and_parts (is_zero x) (every is_zero xs) e in
+    let a = and_parts (is_zero x) (list_all is_zero xs) e in
     let z = eqb-true x 0 a.0 in
     rw (z, zeros_are xs n (omega arith) a.1)
 
@@ -77,25 +79,25 @@ part_fits n slot bytes lawful =
 
 module _ (n : ℕ) (row : List ℕ) (whole : length row ≡ 64) (bytes : AllByRecursion IsByte row) (h : LawfulRow n row) where
   count : length (rule_in row).parts ≡ part_count row
-  count = length-map (slots row) part_in ∙ length_pieces 4 (part_count row) (drop 4 row)
+  count = length-map (slots row) part_in ∙ length_chunks 4 (part_count row) (drop 4 row)
 
   -- each slot in use has four bytes, and is lawful
   slots_bytes : AllByRecursion (AllByRecursion IsByte) (slots row)
-  slots_bytes = all_pieces IsByte 4 (part_count row) (drop 4 row) (All-drop IsByte 4 row bytes)
+  slots_bytes = all_chunks IsByte 4 (part_count row) (drop 4 row) (All-drop IsByte 4 row bytes)
 
   slots_lawful : AllByRecursion (λ s. lawful_part n s ≡ true) (slots row)
-  slots_lawful = all_every (lawful_part n) (slots row) h.each_part
+  slots_lawful = all_passed (lawful_part n) (slots row) h.each_part
 
   slots_whole : AllByRecursion (λ s. length s ≡ 4) (slots row)
   slots_whole =
       let behind : 4 * part_count row ≤ length (drop 4 row) = simp length-drop (omega (arith, h.few_parts)) in
-      pieces_whole 4 (part_count row) (drop 4 row) behind
+      chunks_whole 4 (part_count row) (drop 4 row) behind
 
-  parts_written : joined (map part_bytes (map part_in (slots row))) ≡ joined (slots row)
+  parts_written : concat (map part_bytes (map part_in (slots row))) ≡ concat (slots row)
   parts_written =
       let each = all_three (λ s. length s ≡ 4) (AllByRecursion IsByte) (λ s. lawful_part n s ≡ true) (λ s. part_bytes (part_in s) ≡ s)
       (part_written n) (slots row) slots_whole slots_bytes slots_lawful in
-      ap joined (mapped_back part_in part_bytes (slots row) each)
+      ap concat (mapped_back part_in part_bytes (slots row) each)
 
   padding_written : replicate (60 - 4 * part_count row) 0 ≡ padding row
   padding_written = zeros_are (padding row) (60 - 4 * part_count row) (simp (length-drop, length-drop) (omega (arith, h.few_parts))) h.rest_zero
@@ -104,7 +106,7 @@ module _ (n : ℕ) (row : List ℕ) (whole : length row ≡ 64) (bytes : AllByRe
   row_written =
       let small = byte_below row bytes 1 in
       rw (high (byte_at row 0) (byte_at row 1) small, low (byte_at row 0) (byte_at row 1) small, mark_written (mark_byte row) h.mark_known, count, parts_written, padding_written)
-      (ap (λ end. elements 0 4 row ++ end) (joined_pieces 4 (part_count row) (drop 4 row)) ∙ elements_first 0 4 row (omega arith))
+      (ap (λ end. elements 0 4 row ++ end) (concat-chunks 4 (part_count row) (drop 4 row)) ∙ elements_first 0 4 row (omega arith))
 
   pub row_fits : FitsRule n (rule_in row)
   row_fits = record {
@@ -116,15 +118,15 @@ module _ (n : ℕ) (row : List ℕ) (whole : length row ≡ 64) (bytes : AllByRe
 
 module _ (bs : List ℕ) (bytes : AllByRecursion IsByte bs) (h : LawfulTable bs) where
   counts_rules : length (map rule_in (rows bs)) ≡ rule_count bs
-  counts_rules = length-map (rows bs) rule_in ∙ length_pieces 64 (rule_count bs) (drop 8 bs)
+  counts_rules = length-map (rows bs) rule_in ∙ length_chunks 64 (rule_count bs) (drop 8 bs)
 
   rows_whole : AllByRecursion (λ row. length row ≡ 64) (rows bs)
   rows_whole =
       let behind : 64 * rule_count bs ≤ length (drop 8 bs) = simp length-drop (omega (arith, h.whole_rows)) in
-      pieces_whole 64 (rule_count bs) (drop 8 bs) behind
+      chunks_whole 64 (rule_count bs) (drop 8 bs) behind
 
   rows_bytes : AllByRecursion (AllByRecursion IsByte) (rows bs)
-  rows_bytes = all_pieces IsByte 64 (rule_count bs) (drop 8 bs) (All-drop IsByte 8 bs bytes)
+  rows_bytes = all_chunks IsByte 64 (rule_count bs) (drop 8 bs) (All-drop IsByte 8 bs bytes)
 
   rows_written : map row_bytes (map rule_in (rows bs)) ≡ rows bs
   rows_written =
@@ -138,12 +140,12 @@ module _ (bs : List ℕ) (bytes : AllByRecursion IsByte bs) (h : LawfulTable bs)
       (all_three (λ row. length row ≡ 64) (AllByRecursion IsByte) (LawfulRow (symbol_count bs)) (λ row. FitsRule (symbol_count bs) (rule_in row))
       (row_fits (symbol_count bs)) (rows bs) rows_whole rows_bytes h.each_row)
 
-  behind_header : joined (map row_bytes (map rule_in (rows bs))) ≡ drop 8 bs
+  behind_header : concat (map row_bytes (map rule_in (rows bs))) ≡ drop 8 bs
   behind_header =
       let size : length (drop 8 bs) ≤ 64 * rule_count bs = simp length-drop (omega (arith, h.whole_rows)) in
-      ap joined rows_written
-      ∙ (sym (append-nil (joined (rows bs)))
-      ∙ (ap (λ end. joined (rows bs) ++ end) (sym (drop_all (64 * rule_count bs) (drop 8 bs) size)) ∙ joined_pieces 64 (rule_count bs) (drop 8 bs)))
+      ap concat rows_written
+      ∙ (sym (append-nil (concat (rows bs)))
+      ∙ (ap (λ end. concat (rows bs) ++ end) (sym (drop_all (64 * rule_count bs) (drop 8 bs) size)) ∙ concat-chunks 64 (rule_count bs) (drop 8 bs)))
 
   pub table_written : table_of (listed_in bs) ≡ bs
   table_written =

@@ -2,15 +2,15 @@
 use Rattle.std.specs.Prelude.{◌≡◌, ℕ, zero, suc, ◌+◌, ◌*◌, ◌<◌, ◌≤◌, Bool, true, false, cond, ◌&&◌, List, [], ◌∷◌, map, length, drop, is_some, IfSome, Some, None, Option, ◌==◌, nat_le, nat_lt, refl}
 use Rattle.std.proofs.Common.{sym, ap, ◌∙◌, arith}
 use Rattle.std.specs.Option.{option_or}
-use Rattle.std.specs.List.{AllByRecursion, slice_get}
+use Rattle.std.specs.List.{AllByRecursion, list_all, slice_get}
 use Rattle.std.proofs.ByRecursion.{All-map, All-weaker}
 use Rattle.std.proofs.lemmas.List.{length-map}
 use Rattle.std.proofs.lemmas.Option.{slice_get_past}
 use Rattle.std.proofs.lemmas.Bool.{cond_both, cond-true, cond-false, ltb-true, leb-true, eqb-true, and_parts, not-true, true≢false}
 use Rattle.grammar.specs.Meaning.{Rule, LawfulPart, LawfulRule, Bounded}
-use Rattle.packed.specs.Pieces.{length_pieces}
+use Rattle.packed.specs.Chunks.{length_chunks}
 use Rattle.packed.specs.Format.{byte_at, pair_at, symbol_count, rule_count, start_symbol, last_field, rows, left_symbol, mark_byte, part_count, slots, padding, part_in, rule_in, packed_meaning}
-use Rattle.packed.specs.Check.{every, is_zero, lawful_part, lawful_head, row_fault, rows_fault, lawful_length, lawful_header, table_fault, is_lawful}
+use Rattle.packed.specs.Check.{is_zero, lawful_part, lawful_head, row_fault, rows_fault, lawful_length, lawful_header, table_fault, is_lawful}
 use Rattle.packed.specs.declared.fault.TableFault.{TableFault}
 
 -- the facts behind the questions, once each is answered yes
@@ -18,8 +18,8 @@ pub record LawfulRow (n : ℕ) (row : List ℕ) : Type 0 where
   pub left_below : left_symbol row < n
   pub mark_known : mark_byte row ≤ 1
   pub few_parts : part_count row ≤ 15
-  pub each_part : every (lawful_part n) (slots row) ≡ true
-  pub rest_zero : every is_zero (padding row) ≡ true
+  pub each_part : list_all (lawful_part n) (slots row) ≡ true
+  pub rest_zero : list_all is_zero (padding row) ≡ true
 
 pub record LawfulTable (bs : List ℕ) : Type 0 where
   pub long_enough : 8 ≤ length bs
@@ -53,8 +53,8 @@ head_facts n row e =
 pub row_facts : (n rule : ℕ) (row : List ℕ) → row_fault n rule row ≡ None → LawfulRow n row
 row_facts n rule row e =
     let a = asked (lawful_head n row) _ _ e in
-    let b = asked (every (lawful_part n) (slots row)) _ _ a.1 in
-    let c = asked (every is_zero (padding row)) _ _ b.1 in
+    let b = asked (list_all (lawful_part n) (slots row)) _ _ a.1 in
+    let c = asked (list_all is_zero (padding row)) _ _ b.1 in
     let h = head_facts n row a.0 in
     record { left_below = h.0; mark_known = h.1; few_parts = h.2; each_part = b.0; rest_zero = c.0 }
 
@@ -112,19 +112,19 @@ part_lawful n slot e =
     (λ h. at_symbol n t (byte_at slot 1) (pair_at slot 2) _ h e)
     (λ h. cond_both (t == 2) _ _ (LawfulPart n) (λ k. at_range t (byte_at slot 1) (byte_at slot 2) (byte_at slot 3) _ _ h k e) (λ _. tt))
 
-pub all_every : {X : Type 0} (p : X → Bool) (xs : List X) → every p xs ≡ true → AllByRecursion (λ x. p x ≡ true) xs
-all_every p [] e = tt
-all_every p (x ∷ xs) e = let a = and_parts (p x) (every p xs) e in (a.0, all_every p xs a.1)
+pub all_passed : {X : Type 0} (p : X → Bool) (xs : List X) → list_all p xs ≡ true → AllByRecursion (λ x. p x ≡ true) xs
+all_passed p [] e = tt
+all_passed p (x ∷ xs) e = let a = and_parts (p x) (list_all p xs) e in (a.0, all_passed p xs a.1)
 
 rule_lawful : (n : ℕ) (row : List ℕ) → LawfulRow n row → LawfulRule n (rule_in row)
 rule_lawful n row h =
-    let count = length-map (slots row) part_in ∙ length_pieces 4 (part_count row) (drop 4 row) in
+    let count = length-map (slots row) part_in ∙ length_chunks 4 (part_count row) (drop 4 row) in
     record {
       left_below = h.left_below;
       few_parts = omega (arith, count, h.few_parts);
       each_part =
           All-map (LawfulPart n) part_in (slots row)
-          (All-weaker (λ s. lawful_part n s ≡ true) (λ s. LawfulPart n (part_in s)) (part_lawful n) (slots row) (all_every (lawful_part n) (slots row) h.each_part));
+          (All-weaker (λ s. lawful_part n s ≡ true) (λ s. LawfulPart n (part_in s)) (part_lawful n) (slots row) (all_passed (lawful_part n) (slots row) h.each_part));
     }
 
 all_cases : (n : ℕ) (rs : List Rule) → AllByRecursion (LawfulRule n) rs → (k : ℕ) → IfSome (slice_get rs k) (LawfulRule n)
@@ -135,7 +135,7 @@ all_cases n (r ∷ rs) a (suc k) = all_cases n rs a.1 k
 pub packed_bounded : (bs : List ℕ) → is_lawful bs ≡ true → Bounded (packed_meaning bs)
 packed_bounded bs e =
     let t = table_facts bs e in
-    let count = length-map (rows bs) rule_in ∙ length_pieces 64 (rule_count bs) (drop 8 bs) in
+    let count = length-map (rows bs) rule_in ∙ length_chunks 64 (rule_count bs) (drop 8 bs) in
     let each = All-map (LawfulRule (symbol_count bs)) rule_in (rows bs)
     (All-weaker (LawfulRow (symbol_count bs)) (λ row. LawfulRule (symbol_count bs) (rule_in row)) (rule_lawful (symbol_count bs)) (rows bs) t.each_row) in
     record {
@@ -146,9 +146,3 @@ packed_bounded bs e =
       each_rule = all_cases (symbol_count bs) (map rule_in (rows bs)) each;
       none_past = slice_get_past (map rule_in (rows bs));
     }
-
--- the row of a rule that is there
-pub record RowOf (bs : List ℕ) (rule : ℕ) (row : List ℕ) : Type 0 where
-  pub means : (packed_meaning bs).rule rule ≡ Some (rule_in row)
-  pub whole : length row ≡ 64
-  pub few_parts : part_count row ≤ 15

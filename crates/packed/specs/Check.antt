@@ -1,6 +1,7 @@
 -- The check of a packed table: the first question with the answer no.
-use Rattle.std.specs.Prelude.{ℕ, ◌+◌, ◌*◌, Bool, true, cond, not, ◌&&◌, List, [], ◌∷◌, length, is_some, Some, None, Ok, Err, Option, Result, ◌==◌, nat_le, nat_lt}
+use Rattle.std.specs.Prelude.{ℕ, ◌+◌, ◌*◌, Bool, cond, not, ◌&&◌, List, [], ◌∷◌, length, is_some, Some, None, Ok, Err, Option, Result, ◌==◌, nat_le, nat_lt}
 use Rattle.std.specs.Option.{option_or}
+use Rattle.std.specs.List.{list_all}
 use Rattle.grammar.specs.Meaning.{Meaning}
 use Rattle.packed.specs.Format.{byte_at, pair_at, symbol_count, rule_count, start_symbol, last_field, rows, left_symbol, mark_byte, part_count, slots, padding, packed_meaning, empty_meaning}
 use Rattle.packed.specs.declared.fault.TableFault.{TableFault}
@@ -23,8 +24,7 @@ fault_rule (RulePadding rule) = rule
 
 -- does each element pass?
 abbrev pub every : {X : Type 0} → (X → Bool) → List X → Bool
-every p [] = true
-every p (x ∷ xs) = p x && every p xs
+every = list_all
 
 abbrev pub is_zero : ℕ → Bool
 is_zero b = b == 0
@@ -42,7 +42,7 @@ lawful_head n row = nat_lt (left_symbol row) n && (nat_le (mark_byte row) 1 && n
 abbrev pub row_fault : ℕ → ℕ → List ℕ → Option TableFault
 row_fault n rule row =
     cond (lawful_head n row)
-    (cond (every (lawful_part n) (slots row)) (cond (every is_zero (padding row)) None (Some (RulePadding rule))) (Some (RulePart rule)))
+    (cond (list_all (lawful_part n) (slots row)) (cond (list_all is_zero (padding row)) None (Some (RulePadding rule))) (Some (RulePart rule)))
     (Some (RuleHead rule))
 
 -- the first no about the rules from this number on
@@ -67,6 +67,11 @@ is_lawful bs = not (is_some (table_fault bs))
 abbrev pub outcome : Option TableFault → Result Unit TableFault
 outcome None = Ok tt
 outcome (Some fault) = Err fault
+
+-- a grammar, or the fault that there is none for, without the grammar itself
+abbrev pub answered : {G : Type 0} → Result G TableFault → Result Unit TableFault
+answered (Ok g) = Ok tt
+answered (Err fault) = Err fault
 
 -- a refused table opens as the empty grammar
 abbrev pub opened_meaning : List ℕ → Meaning

@@ -6,7 +6,7 @@ use Rattle.grammar.specs.declared.Mark.{Mark}
 use Rattle.grammar.specs.declared.Mark.TheVariants.{Loose, Tight}
 use Rattle.grammar.specs.declared.Part.{Part}
 use Rattle.grammar.specs.declared.Part.TheVariants.{Symbol, Range, Except}
-use Rattle.packed.specs.Pieces.{joined}
+use Rattle.std.specs.List.{concat}
 use Rattle.packed.specs.Format.{Listed}
 
 abbrev pub IsByte : ℕ → Type 0
@@ -28,11 +28,11 @@ part_bytes (Except x y z) = 3 ∷ x ∷ y ∷ z ∷ []
 abbrev pub row_bytes : Rule → List ℕ
 row_bytes r =
     pair_bytes r.left
-    ++ (mark_number r.mark ∷ length r.parts ∷ (joined (map part_bytes r.parts) ++ replicate (60 - 4 * length r.parts) 0))
+    ++ (mark_number r.mark ∷ length r.parts ∷ (concat (map part_bytes r.parts) ++ replicate (60 - 4 * length r.parts) 0))
 
 abbrev pub table_of : Listed → List ℕ
 table_of g =
-    pair_bytes g.symbols ++ (pair_bytes (length g.rules) ++ (pair_bytes g.start ++ (pair_bytes 0 ++ joined (map row_bytes g.rules))))
+    pair_bytes g.symbols ++ (pair_bytes (length g.rules) ++ (pair_bytes g.start ++ (pair_bytes 0 ++ concat (map row_bytes g.rules))))
 
 -- the bounds of the format
 abbrev pub FitsPart : ℕ → Part → Type 0

@@ -9,7 +9,7 @@ use Rattle.grammar.specs.declared.Mark.{Mark}
 use Rattle.grammar.specs.declared.Mark.TheVariants.{Loose, Tight}
 use Rattle.grammar.specs.declared.Part.{Part}
 use Rattle.grammar.specs.declared.Part.TheVariants.{Symbol, Range, Except}
-use Rattle.packed.specs.Pieces.{pieces}
+use Rattle.std.specs.Simd.{first_chunks}
 
 abbrev pub byte_at : List ℕ → ℕ → ℕ
 byte_at bs i = slice_index bs i
@@ -33,7 +33,7 @@ last_field bs = pair_at bs 6
 
 -- the row of each rule
 abbrev pub rows : List ℕ → List (List ℕ)
-rows bs = pieces 64 (rule_count bs) (drop 8 bs)
+rows bs = first_chunks 64 (rule_count bs) (drop 8 bs)
 
 abbrev pub left_symbol : List ℕ → ℕ
 left_symbol row = pair_at row 0
@@ -46,7 +46,7 @@ part_count row = byte_at row 3
 
 -- the slots in use, and all bytes behind them
 abbrev pub slots : List ℕ → List (List ℕ)
-slots row = pieces 4 (part_count row) (drop 4 row)
+slots row = first_chunks 4 (part_count row) (drop 4 row)
 
 abbrev pub padding : List ℕ → List ℕ
 padding row = drop (4 * part_count row) (drop 4 row)

@@ -1,60 +1,49 @@
 // The check of a packed table.
-ghost use Rattle.std.specs.Prelude.{◌≡◌, ◌+◌, ◌*◌, ◌<◌, ◌≤◌, length};
-ghost use Rattle.packed.specs.Format.{symbol_count, rule_count, rows, part_count, slots, padding};
-ghost use Rattle.packed.specs.Check.{every, is_zero, lawful_part, lawful_head, row_fault, rows_fault, lawful_length, lawful_header, table_fault, outcome};
+ghost use Rattle.std.specs.Prelude.{◌≡◌};
+ghost use Rattle.std.specs.List.{list_all};
+ghost use Rattle.packed.specs.Format.{symbol_count, rows, slots, padding};
+ghost use Rattle.packed.specs.Check.{is_zero, lawful_part, row_fault, rows_fault, lawful_header, table_fault, outcome};
 
 use crate::fault::TableFault;
-use crate::layout::{pair, row, slot, tail};
+use crate::layout::{Row, Table};
 
 // Whether the table is lawful: if not, the first question with the answer no.
 pub fn check(table: &[u8]) -> Result<(), TableFault>
     ensures { result ≡ outcome (table_fault table.now) }
 {
-    if !length_is_lawful(table) {
+    let Some(table) = Table::new(table) else {
         return Err(TableFault::Length);
-    }
+    };
     if !header_is_lawful(table) {
         return Err(TableFault::Header);
     }
     check_rows(table)
 }
 
-fn length_is_lawful(table: &[u8]) -> bool
-    ensures { result ≡ lawful_length table.now }
+fn header_is_lawful(table: Table) -> bool
+    ensures { result ≡ lawful_header table.entry.bytes.now }
 {
-    if table.len() < 8 {
-        return false;
-    }
-    let rules = pair(table, 2) as usize;
-    table.len() == 8 + 64 * rules && rules <= 1000
+    let symbols = table.symbols();
+    1 <= symbols && symbols <= 256 && table.start() < symbols && table.last() == 0
 }
 
-fn header_is_lawful(table: &[u8]) -> bool
-    requires { 8 ≤ length table.now }
-    ensures { result ≡ lawful_header table.now }
+fn check_rows(table: Table) -> Result<(), TableFault>
+    ensures { result ≡ outcome (rows_fault (symbol_count table.entry.bytes.now) 0 (rows table.entry.bytes.now)) }
 {
-    let symbols = pair(table, 0);
-    1 <= symbols && symbols <= 256 && pair(table, 4) < symbols && pair(table, 6) == 0
-}
-
-fn check_rows(table: &[u8]) -> Result<(), TableFault>
-    requires { length table.now ≡ 8 + 64 * rule_count table.now }
-    ensures { result ≡ outcome (rows_fault (symbol_count table.now) 0 (rows table.now)) }
-{
-    let symbols = pair(table, 0);
-    for rule in 0..pair(table, 2) {
-        check_row(symbols, rule, row(table, rule))?;
+    let symbols = table.symbols();
+    for (rule, row) in table.rows().iter().enumerate() {
+        check_row(symbols, rule as u16, row)?;
     }
     Ok(())
 }
 
-fn check_row(symbols: u16, rule: u16, row: &[u8]) -> Result<(), TableFault>
-    requires { length row.now ≡ 64 }
+fn check_row(symbols: u16, rule: u16, row: &[u8; 64]) -> Result<(), TableFault>
     ensures { result ≡ outcome (row_fault symbols rule row.now) }
 {
-    if !head_is_lawful(symbols, row) {
-        Err(TableFault::RuleHead(rule))
-    } else if !parts_are_lawful(symbols, row) {
+    let Some(row) = Row::new(symbols, row) else {
+        return Err(TableFault::RuleHead(rule));
+    };
+    if !parts_are_lawful(symbols, row) {
         Err(TableFault::RulePart(rule))
     } else if !rest_is_zero(row) {
         Err(TableFault::RulePadding(rule))
@@ -63,30 +52,13 @@ fn check_row(symbols: u16, rule: u16, row: &[u8]) -> Result<(), TableFault>
     }
 }
 
-fn head_is_lawful(symbols: u16, row: &[u8]) -> bool
-    requires { length row.now ≡ 64 }
-    ensures { result ≡ lawful_head symbols row.now }
+fn parts_are_lawful(symbols: u16, row: Row) -> bool
+    ensures { result ≡ list_all (lawful_part symbols) (slots row.entry.bytes.now) }
 {
-    let [high, low, mark, count, ..] = row else {
-        return false;
-    };
-    u16::from_be_bytes([*high, *low]) < symbols && *mark <= 1 && *count <= 15
+    row.slots().iter().all(|slot| part_is_lawful(symbols, slot))
 }
 
-fn parts_are_lawful(symbols: u16, row: &[u8]) -> bool
-    requires { (length row.now ≡ 64) × (part_count row.now ≤ 15) }
-    ensures { result ≡ every (lawful_part symbols) (slots row.now) }
-{
-    for k in 0..row[3] {
-        if !part_is_lawful(symbols, slot(row, k)) {
-            return false;
-        }
-    }
-    true
-}
-
-fn part_is_lawful(symbols: u16, slot: &[u8]) -> bool
-    requires { length slot.now ≡ 4 }
+fn part_is_lawful(symbols: u16, slot: &[u8; 4]) -> bool
     ensures { result ≡ lawful_part symbols slot.now }
 {
     match slot {
@@ -97,12 +69,10 @@ fn part_is_lawful(symbols: u16, slot: &[u8]) -> bool
     }
 }
 
-fn rest_is_zero(row: &[u8]) -> bool
-    requires { (length row.now ≡ 64) × (part_count row.now ≤ 15) }
-    ensures { result ≡ every is_zero (padding row.now) }
+fn rest_is_zero(row: Row) -> bool
+    ensures { result ≡ list_all is_zero (padding row.entry.bytes.now) }
 {
-    let rest = tail(row);
-    for byte in rest {
+    for byte in row.rest() {
         if *byte != 0 {
             return false;
         }

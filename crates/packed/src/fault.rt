@@ -1,6 +1,9 @@
 // Why a packed table is refused.
-ghost use Rattle.std.specs.Prelude.{◌≡◌};
+ghost use Rattle.std.specs.Prelude.{◌≡◌, Some};
 ghost use Rattle.packed.specs.Check.{fault_number, fault_rule};
+ghost use Rattle.packed.specs.Text.{fault_text};
+
+use std::fmt;
 
 // The first question with the answer no: about the length, the header, or the first rule concerned.
 #[derive(Clone, Copy, PartialEq, Eq)]
@@ -36,5 +39,13 @@ impl TableFault {
             | TableFault::RulePart(rule)
             | TableFault::RulePadding(rule) => rule,
         }
+    }
+}
+
+impl fmt::Display for TableFault {
+    ghost output = { λ fault. Some (fault_text fault) };
+
+    fn fmt<W: fmt::Write>(&self, f: &mut fmt::Formatter<W>) -> fmt::Result {
+        write!(f, "refused {} rule={}", self.number(), self.rule())
     }
 }

@@ -1,13 +1,14 @@
 // A grammar in a packed table: the bytes that users bring.
 #![tactic(auto)]
 
-ghost use Rattle.std.specs.Prelude.{◌≡◌, ◌<◌, true, length, None, MatchOption};
-ghost use Rattle.packed.specs.Format.{mark_in, part_in, packed_meaning};
-ghost use Rattle.packed.specs.Check.{table_fault, outcome, is_lawful, opened_meaning};
-ghost use Rattle.packed.specs.Bounds.{packed_bounded, RowOf};
+ghost use Rattle.std.specs.Prelude.{◌≡◌, true, IfOk, MatchOption};
+ghost use Rattle.packed.specs.Format.{part_in, rule_in, packed_meaning};
+ghost use Rattle.packed.specs.Check.{table_fault, outcome, answered, is_lawful, opened_meaning};
+ghost use Rattle.packed.specs.Bounds.{packed_bounded};
 
 use grammar::{Grammar, Mark, Part};
 
+pub mod base;
 pub mod check;
 pub mod fault;
 pub mod laws;
@@ -15,7 +16,7 @@ mod layout;
 
 use check::check;
 use fault::TableFault;
-use layout::{pair, row, slot};
+use layout::{Row, Table};
 
 // One symbol, no rules, start 0.
 const EMPTY: [u8; 8] = [0, 1, 0, 0, 0, 0, 0, 0];
@@ -33,21 +34,35 @@ impl<'a> Packed<'a> {
         ensures grammar { packed_meaning result.0.table.now ≡ opened_meaning table.now }
         ensures answer { result.1 ≡ outcome (table_fault table.now) }
     {
-        match check(table) {
-            Ok(()) => (Packed { table }, Ok(())),
+        match Packed::try_from(table) {
+            Ok(packed) => (packed, Ok(())),
             Err(fault) => (Packed { table: &EMPTY }, Err(fault)),
         }
     }
 
-    // The row of a rule, unless there is no such rule.
-    fn row(&self, rule: u16) -> Option<&'a [u8]>
-        ensures { MatchOption result ((packed_meaning self.now.table.now).rule rule ≡ None) (λ row. RowOf self.now.table.now rule row.now) }
+    fn layout(&self) -> Table<'a>
+        ensures { result.bytes.now ≡ self.now.table.now }
     {
-        if rule < pair(self.table, 2) {
-            Some(row(self.table, rule))
-        } else {
-            None
-        }
+        Table { bytes: self.table }
+    }
+
+    // The row of a rule, unless there is no such rule.
+    fn row(&self, rule: u16) -> Option<Row<'a>>
+        ensures { MatchOption result ((packed_meaning self.now.table.now).rule rule ≡ None) (λ row. (packed_meaning self.now.table.now).rule rule ≡ Some (rule_in row.bytes.now)) }
+    {
+        let bytes = self.layout().rows().get(rule as usize)?;
+        Some(Row { bytes })
+    }
+}
+
+impl<'a> TryFrom<&'a [u8]> for Packed<'a> {
+    type Error = TableFault;
+
+    ghost try_from_gives = { λ table opened. record { grammar : IfOk opened (λ packed. packed.table.now ≡ table.now); answer : answered opened ≡ outcome (table_fault table.now) } };
+
+    fn try_from(table: &'a [u8]) -> Result<Packed<'a>, TableFault> {
+        check(table)?;
+        Ok(Packed { table })
     }
 }
 
@@ -57,51 +72,37 @@ impl<'a> Grammar for Packed<'a> {
     ghost bounds = { λ x. packed_bounded x.table.now x.lawful };
 
     fn start(&self) -> u16 {
-        pair(self.table, 4)
+        self.layout().start()
     }
 
     fn symbols(&self) -> u16 {
-        pair(self.table, 0)
+        self.layout().symbols()
     }
 
     fn rules(&self) -> u16 {
-        pair(self.table, 2)
+        self.layout().rules()
     }
 
     fn left(&self, rule: u16) -> Option<u16> {
-        let row = self.row(rule)?;
-        Some(pair(row, 0))
+        Some(self.row(rule)?.left())
     }
 
     fn mark(&self, rule: u16) -> Option<Mark> {
-        let row = self.row(rule)?;
-        Some(mark_in(row[2]))
+        Some(self.row(rule)?.mark())
     }
 
     fn parts(&self, rule: u16) -> Option<u8> {
-        let row = self.row(rule)?;
-        Some(row[3])
+        Some(self.row(rule)?.parts())
     }
 
     fn part(&self, rule: u16, k: u8) -> Option<Part> {
-        let row = self.row(rule)?;
-        if k < row[3] {
-            Some(part_in(slot(row, k)))
-        } else {
-            None
-        }
+        let slot = self.row(rule)?.slots().get(k as usize)?;
+        Some(part_in(slot))
     }
 }
 
-fn mark_in(byte: u8) -> Mark
-    ensures { result ≡ mark_in byte }
-{
-    if byte == 1 { Mark::Loose } else { Mark::Tight }
-}
-
 // The part that four bytes stand for.
-fn part_in(slot: &[u8]) -> Part
-    requires { length slot.now ≡ 4 }
+fn part_in(slot: &[u8; 4]) -> Part
     ensures { result ≡ part_in slot.now }
 {
     match slot {
@@ -111,6 +112,5 @@ fn part_in(slot: &[u8]) -> Part
             high: *high,
         },
         [_, x, y, z] => Part::Except(*x, *y, *z),
-        _ => Part::Except(0, 0, 0),
     }
 }

@@ -15,9 +15,8 @@ fn main(rt: HostRuntime) -> io::Result<()> {
     let heap = rt.alloc();
     let mut memory = Blocks::new();
     let mut stage = Stage::new(heap);
-    let mut number = 0u64;
-    for line in BufReader::new(heap, rt.stdin())?.lines(heap) {
-        number = number.saturating_add(1);
+    let lines = BufReader::new(heap, rt.stdin())?.lines(heap);
+    for (number, line) in (1..u64::MAX).zip(lines) {
         let outcome = match line {
             Ok(line) => follow(heap, &mut memory, &mut stage, line.as_str()),
             Err(error) if error.kind() == ErrorKind::InvalidData => Err(Trouble::NotText),
@@ -26,10 +25,7 @@ fn main(rt: HostRuntime) -> io::Result<()> {
         match outcome {
             Ok(Some(answer)) => rt.print(answer)?,
             Ok(None) => {}
-            Err(trouble) => {
-                let why = trouble.words();
-                println!(rt; "line {number}: {why}")?
-            }
+            Err(trouble) => println!(rt; "line {number}: {trouble}")?,
         }
     }
     Ok(())
@@ -43,11 +39,11 @@ fn follow(
     line: &str,
 ) -> Result<Option<String>, Trouble> {
     match read_order(line)? {
-        Order::Call(request) => Ok(Some(stage.call(heap, memory, request)?)),
-        Order::Set(setting) => {
+        Some(Order::Call(request)) => Ok(Some(stage.call(heap, memory, request)?)),
+        Some(Order::Set(setting)) => {
             stage.set(heap, setting)?;
             Ok(None)
         }
-        Order::Nothing => Ok(None),
+        None => Ok(None),
     }
 }

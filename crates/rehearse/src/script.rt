@@ -1,6 +1,9 @@
 // The lines of a script.
 use cues::requests::Request;
+use grammar::barred::BarRefusal;
+use packed::fault::TableFault;
 use std::alloc::{AllocError, AllocFailed};
+use std::fmt;
 
 // What the next calls are handed. Bytes and listings are still as they stand in the line.
 #[derive(Clone, Copy)]
@@ -18,12 +21,11 @@ pub enum Setting<'a> {
     Buffer(u16),
 }
 
-// What a line orders.
+// What a line orders: to make a call, or to set what the next calls are handed.
 #[derive(Clone, Copy)]
 pub enum Order<'a> {
     Call(Request),
     Set(Setting<'a>),
-    Nothing,
 }
 
 // Why a line has no answer.
@@ -52,9 +54,21 @@ impl<T: Drop> From<AllocFailed<T>> for Trouble {
     }
 }
 
-impl Trouble {
-    pub(crate) fn words(self) -> &'static str {
-        match self {
+impl From<TableFault> for Trouble {
+    fn from(_fault: TableFault) -> Trouble {
+        Trouble::TableRefused
+    }
+}
+
+impl From<BarRefusal> for Trouble {
+    fn from(_refusal: BarRefusal) -> Trouble {
+        Trouble::RuleTooLarge
+    }
+}
+
+impl fmt::Display for Trouble {
+    fn fmt<W: fmt::Write>(&self, f: &mut fmt::Formatter<W>) -> fmt::Result {
+        f.write_str(match self {
             Trouble::UnknownWord => "the first word is not known",
             Trouble::NothingWanted => "nothing may stand behind this word",
             Trouble::NotANumber => "a number from 0 to 65535 is wanted",
@@ -64,56 +78,44 @@ impl Trouble {
             Trouble::RuleTooLarge => "only rule numbers below 1024 can be barred",
             Trouble::NotText => "the line is not UTF-8 text",
             Trouble::MemoryOut => "memory ran out",
-        }
+        })
     }
 }
 
 // A line is a word, and what stands behind its first blank. An empty line and one that begins with # order nothing.
-pub(crate) fn read_order(line: &str) -> Result<Order<'_>, Trouble> {
+pub(crate) fn read_order(line: &str) -> Result<Option<Order<'_>>, Trouble> {
     if line.is_empty() || line.starts_with('#') {
-        return Ok(Order::Nothing);
+        return Ok(None);
     }
     let (word, rest) = line.split_once(' ').unwrap_or((line, ""));
-    match word {
-        "load" => Ok(Order::Call(Request::Load(number(rest)?))),
-        "clear" => Ok(Order::Call(Request::Clear(number(rest)?))),
-        "fetch" => Ok(Order::Call(Request::Fetch(number(rest)?))),
-        "free" => {
-            nothing(rest)?;
-            Ok(Order::Call(Request::Free))
-        }
-        _ => Ok(Order::Set(read_setting(word, rest)?)),
-    }
+    Ok(Some(match word {
+        "load" => Order::Call(Request::Load(number(rest)?)),
+        "clear" => Order::Call(Request::Clear(number(rest)?)),
+        "fetch" => Order::Call(Request::Fetch(number(rest)?)),
+        "free" => Order::Call(alone(rest, Request::Free)?),
+        _ => Order::Set(read_setting(word, rest)?),
+    }))
 }
 
 fn read_setting<'a>(word: &str, rest: &'a str) -> Result<Setting<'a>, Trouble> {
-    match word {
-        "house" => {
-            nothing(rest)?;
-            Ok(Setting::House)
-        }
-        "table" => Ok(Setting::Table(rest)),
-        "blanks" => Ok(Setting::Blanks(on_or_off(rest)?)),
-        "bar" => Ok(Setting::Bar(number(rest)?)),
-        "nobars" => {
-            nothing(rest)?;
-            Ok(Setting::NoBars)
-        }
-        "text" => Ok(Setting::Text(rest)),
-        "bytes" => Ok(Setting::TextBytes(rest)),
-        "listing" => Ok(Setting::Listing(rest)),
-        "links" => Ok(Setting::Links(rest)),
-        "frames" => Ok(Setting::Frames(number(rest)?)),
-        "buffer" => Ok(Setting::Buffer(number(rest)?)),
-        _ => Err(Trouble::UnknownWord),
-    }
+    Ok(match word {
+        "house" => alone(rest, Setting::House)?,
+        "table" => Setting::Table(rest),
+        "blanks" => Setting::Blanks(on_or_off(rest)?),
+        "bar" => Setting::Bar(number(rest)?),
+        "nobars" => alone(rest, Setting::NoBars)?,
+        "text" => Setting::Text(rest),
+        "bytes" => Setting::TextBytes(rest),
+        "listing" => Setting::Listing(rest),
+        "links" => Setting::Links(rest),
+        "frames" => Setting::Frames(number(rest)?),
+        "buffer" => Setting::Buffer(number(rest)?),
+        _ => return Err(Trouble::UnknownWord),
+    })
 }
 
 fn number(word: &str) -> Result<u16, Trouble> {
-    match word.parse::<u16>() {
-        Ok(number) => Ok(number),
-        Err(_) => Err(Trouble::NotANumber),
-    }
+    word.parse::<u16>().map_err(|_| Trouble::NotANumber)
 }
 
 fn on_or_off(word: &str) -> Result<bool, Trouble> {
@@ -124,9 +126,10 @@ fn on_or_off(word: &str) -> Result<bool, Trouble> {
     }
 }
 
-fn nothing(rest: &str) -> Result<(), Trouble> {
+// What a word means behind which nothing may stand.
+fn alone<T: Drop>(rest: &str, meant: T) -> Result<T, Trouble> {
     if rest.is_empty() {
-        Ok(())
+        Ok(meant)
     } else {
         Err(Trouble::NothingWanted)
     }

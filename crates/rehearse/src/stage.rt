@@ -1,32 +1,22 @@
 // What the next calls are handed, as the script has set it so far.
 use crate::script::{Setting, Trouble};
-use cues::answers::Answer;
 use cues::calls::free;
-use cues::requests::{Request, perform};
-use grammar::Grammar;
+use cues::requests::{Lent, Request, perform};
 use grammar::barred::Barred;
+use grammar::blanks::Blanks;
 use grammar::house::House;
-use grammar::spaced::Spaced;
-use guide::Guide;
-use guide::link_table::LinkTable;
-use guide::listing::Listing;
+use guide::written::{Form, Written};
 use memory::blocks::Blocks;
-use packed::Packed;
-use report::line::answer_line;
+use packed::{Packed, base};
+use report::line::{Answered, answer_line};
 use std::alloc::{AllocError, Global};
 use walk::state::Frame;
 
-// How the guide is written.
-#[derive(Clone, Copy)]
-enum Form {
-    Listing,
-    Links,
-}
-
-// The grammar is the packed table or, where there is none, the house grammar; then blanks are let in if wanted, and then rules barred.
+// The grammar is that of the table, which without any bytes is the house grammar; then blanks are let in if wanted, and then rules
+// barred.
 #[derive(Drop)]
 pub struct Stage {
-    table: Option<Vec<u8>>,
+    table: Vec<u8>,
     blanks: bool,
     bars: Vec<u16>,
     text: Vec<u8>,
@@ -40,7 +30,7 @@ impl Stage {
     // An empty text, an empty listing, the house grammar, and room for every lawful load and fetch.
     pub(crate) fn new(heap: Global) -> Stage {
         Stage {
-            table: None,
+            table: Vec::new(heap),
             blanks: false,
             bars: Vec::new(heap),
             text: Vec::new(heap),
@@ -53,11 +43,13 @@ impl Stage {
 
     pub(crate) fn set(&mut self, heap: Global, setting: Setting<'_>) -> Result<(), Trouble> {
         match setting {
-            Setting::House => self.table = None,
-            Setting::Table(hex) => self.table = Some(table_in(heap, hex)?),
+            Setting::House => self.table.clear(),
+            Setting::Table(hex) => self.table = table_in(heap, hex)?,
             Setting::Blanks(on) => self.blanks = on,
-            Setting::Bar(rule) if rule >= 1_024 => return Err(Trouble::RuleTooLarge),
-            Setting::Bar(rule) => self.bars.push(rule)?,
+            Setting::Bar(rule) => {
+                Barred::new(House).bar(rule)?;
+                self.bars.push(rule)?
+            }
             Setting::NoBars => self.bars.clear(),
             Setting::Text(text) => self.text = text.as_bytes().to_vec(heap)?,
             Setting::TextBytes(hex) => self.text = bytes_in(heap, hex)?,
@@ -81,92 +73,44 @@ impl Stage {
         heap: Global,
         memory: &mut Blocks,
         request: Request,
-    ) -> Result<String, AllocError> {
-        let answer = match &self.table {
-            None => self.call_under(heap, memory, request, House)?,
-            Some(table) => {
-                let (grammar, _) = Packed::open(table.as_slice());
-                self.call_under(heap, memory, request, grammar)?
-            }
-        };
-        answer_line(heap, answer, free(memory))
-    }
-
-    fn call_under<B: Grammar + Drop>(
-        &self,
-        heap: Global,
-        memory: &mut Blocks,
-        request: Request,
-        grammar: B,
-    ) -> Result<Answer, AllocError> {
-        if self.blanks {
-            self.call_barred(heap, memory, request, Spaced::new(grammar))
-        } else {
-            self.call_barred(heap, memory, request, grammar)
-        }
-    }
-
-    fn call_barred<B: Grammar + Drop>(
-        &self,
-        heap: Global,
-        memory: &mut Blocks,
-        request: Request,
-        below: B,
-    ) -> Result<Answer, AllocError> {
-        let mut grammar = Barred::new(below);
+    ) -> Result<String, Trouble> {
+        let base = base::open(self.table.as_slice())?;
+        let mut grammar = Barred::new(Blanks::new(base, self.blanks));
         for rule in self.bars.iter() {
-            let _ = grammar.bar(*rule);
+            grammar.bar(*rule)?;
         }
-        let bytes = self.guide.as_slice();
-        match self.form {
-            Form::Listing => {
-                self.call_with(heap, memory, request, &grammar, &mut Listing::new(bytes))
-            }
-            Form::Links => {
-                self.call_with(heap, memory, request, &grammar, &mut LinkTable::new(bytes))
-            }
-        }
-    }
-
-    fn call_with<B: Grammar, G: Guide>(
-        &self,
-        heap: Global,
-        memory: &mut Blocks,
-        request: Request,
-        grammar: &B,
-        guide: &mut G,
-    ) -> Result<Answer, AllocError> {
+        let mut guide = Written::new(self.form, self.guide.as_slice());
         let mut frames = vec![in heap; Frame::BLANK; self.frames as usize]?;
         let mut buffer = vec![in heap; 0u8; self.buffer as usize]?;
-        Ok(perform(
+        let answer = perform(
             memory,
             request,
-            self.text.as_slice(),
-            grammar,
-            guide,
-            &mut frames,
-            &mut buffer,
-        ))
+            &mut Lent {
+                text: self.text.as_slice(),
+                grammar: &grammar,
+                guide: &mut guide,
+                frames: &mut frames,
+                buffer: &mut buffer,
+            },
+        );
+        let answered = Answered {
+            answer,
+            free: free(memory),
+        };
+        Ok(answer_line(heap, answered)?)
     }
 }
 
 // The bytes of a lawful packed table.
 fn table_in(heap: Global, hex: &str) -> Result<Vec<u8>, Trouble> {
     let table = bytes_in(heap, hex)?;
-    let (_, answer) = Packed::open(table.as_slice());
-    if answer.is_err() {
-        return Err(Trouble::TableRefused);
-    }
+    Packed::try_from(table.as_slice())?;
     Ok(table)
 }
 
 // Bytes that are written as two hexadecimal digits each, with blanks between them.
 fn bytes_in(heap: Global, hex: &str) -> Result<Vec<u8>, Trouble> {
-    let mut bytes = Vec::new(heap);
-    for word in hex.split_whitespace() {
-        bytes.push(byte_in(word)?)?;
-    }
-    Ok(bytes)
+    hex.split_whitespace().map(byte_in).try_collect(heap)
 }
 
 fn byte_in(word: &str) -> Result<u8, Trouble> {
@@ -178,10 +122,8 @@ fn byte_in(word: &str) -> Result<u8, Trouble> {
 
 // A listing whose lines are written with blanks between them.
 fn listing_in(heap: Global, lines: &str) -> Result<Vec<u8>, AllocError> {
-    let mut listing = Vec::new(heap);
-    for line in lines.split_whitespace() {
-        listing.extend_from_slice(line.as_bytes())?;
-        listing.push(10)?;
-    }
-    Ok(listing)
+    lines
+        .split_whitespace()
+        .flat_map(|line| line.bytes().chain([10]))
+        .collect(heap)
 }

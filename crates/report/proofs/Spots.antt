@@ -1,10 +1,10 @@
 -- A part of some bytes from an offset on.
-use Rattle.std.proofs.Common.{◌≡◌, ℕ, zero, suc, ◌-◌, min, List, [], ◌∷◌, ◌++◌, length, take, drop, sym, refl, ap, ◌∙◌, subst, arith, length-drop, take-append-drop, length-take}
+use Rattle.std.proofs.Common.{◌≡◌, ℕ, zero, suc, ◌-◌, min, List, [], ◌∷◌, ◌++◌, length, take, drop, Some, None, Option, sym, refl, ap, ◌∙◌, subst, arith, length-drop, take-append-drop, length-take}
 use native.Mathlib.Numerals.{unary_clauses}
 use Rattle.std.proofs.lemmas.List.{take_all}
 use Rattle.report.specs.Spot.{spot_length, spotted, PartAt, StandsAt}
 use Rattle.report.specs.declared.spot.Place.{Place}
-use Rattle.report.specs.declared.spot.Place.TheVariants.{InText, InGuide, Nowhere}
+use Rattle.report.specs.declared.spot.Place.TheVariants.{InText, InGuide}
 
 -- an offset past the end leaves nothing, as the end does
 drop_min : (at : ℕ) (bs : List ℕ) → drop (min at (length bs)) bs ≡ drop at bs
@@ -35,15 +35,11 @@ part_stands all at = record {
   long = length-take spot_length (drop at all) ∙ ap (min spot_length) (length-drop at all);
 }
 
-spot_stands : (p : Place) (text guide : List ℕ) → StandsAt p text guide (spotted p text guide)
-spot_stands (InText at) text guide = part_stands text at
-spot_stands (InGuide at) text guide = part_stands guide at
-spot_stands Nowhere text guide = refl
-
--- the part is the one at the place p where the refusal points, which was found to be q
-pub spotted_there : (p q r : Place) (text guide part : List ℕ) → r ≡ p → r ≡ q → part ≡ spotted q text guide → part ≡ spotted p text guide
-spotted_there p q r text guide part e f h = h ∙ ap (λ x. spotted x text guide) (sym f ∙ e)
+spot_stands : (p : Option Place) (text guide : List ℕ) → StandsAt p text guide (spotted p text guide)
+spot_stands (Some (InText at)) text guide = part_stands text at
+spot_stands (Some (InGuide at)) text guide = part_stands guide at
+spot_stands None text guide = refl
 
 -- the part that the definition gives stands at its place
-pub stands_there : (p : Place) (text guide part : List ℕ) → part ≡ spotted p text guide → StandsAt p text guide part
+pub stands_there : (p : Option Place) (text guide part : List ℕ) → part ≡ spotted p text guide → StandsAt p text guide part
 stands_there p text guide part e = subst (StandsAt p text guide) (sym e) (spot_stands p text guide)

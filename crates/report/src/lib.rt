@@ -5,11 +5,11 @@ ghost use Rattle.std.specs.Prelude.{◌≡◌, IfOk, string_bytes};
 ghost use Rattle.report.specs.Cueline.{outcome, cueline};
 
 use cues::calls::free;
-use cues::requests::{Request, perform};
+use cues::requests::{Lent, Request, perform};
 use grammar::house::House;
 use guide::listing::Listing;
 use input::split_input;
-use line::{Outcome, line};
+use line::{Answered, InputTooLong, Outcome, line};
 use memory::blocks::Blocks;
 use std::alloc::{AllocError, Global};
 use walk::state::Frame;
@@ -28,26 +28,22 @@ pub fn load_input(input: &[u8]) -> Outcome
     ensures { result ≡ outcome input.now }
 {
     if input.len() > MOST_INPUT {
-        return Outcome::InputTooLong;
+        return Err(InputTooLong);
     }
     let (text, listing) = split_input(input);
     let mut memory = Blocks::new();
-    let mut guide = Listing::new(listing);
-    let mut frames = [Frame::BLANK; FRAMES];
-    let mut nowhere: [u8; 0] = [];
-    let answer = perform(
-        &mut memory,
-        Request::Load(1),
+    let mut lent = Lent {
         text,
-        &House,
-        &mut guide,
-        &mut frames,
-        &mut nowhere,
-    );
-    Outcome::Answered {
+        grammar: &House,
+        guide: &mut Listing::new(listing),
+        frames: &mut [Frame::BLANK; FRAMES],
+        buffer: &mut [],
+    };
+    let answer = perform(&mut memory, Request::Load(1), &mut lent);
+    Ok(Answered {
         answer,
         free: free(&memory),
-    }
+    })
 }
 
 // The line for an input, or an error where memory runs out.

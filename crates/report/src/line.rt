@@ -1,109 +1,119 @@
 // The line that is printed for an answer.
-ghost use Rattle.std.specs.Prelude.{◌≡◌, IfOk, string_bytes};
-ghost use Rattle.report.specs.Line.{ok_line, cleared_line, fetched_line, free_line, no_line, fault_line, refusal_line, answer_line, line_of};
+ghost use Rattle.std.specs.Prelude.{◌≡◌, Some, IfOk, string_bytes};
+ghost use Rattle.report.specs.Line.{no_text, refusal_text, answer_text, too_long_text, answer_line, line_of};
 
-use cues::answers::{Answer, Reason, Refusal};
+use cues::answers::{Answer, Refusal};
 use std::alloc::{AllocError, Global};
+use std::fmt;
 use tree::verdict;
 
-// What became of an input: an answer, with the blocks that are free after it, or a refusal before any call.
+// An answer, and the blocks that are free after it.
 #[derive(Clone, Copy)]
-pub enum Outcome {
-    Answered { answer: Answer, free: u16 },
-    InputTooLong,
+pub struct Answered {
+    pub answer: Result<Answer, Refusal>,
+    pub free: u16,
 }
 
-// The number under which an input that is too long is refused.
-const INPUT_TOO_LONG: u8 = 16;
+// An input that is too long for any call.
+#[derive(Clone, Copy)]
+pub struct InputTooLong;
 
-fn ok_line(
-    heap: Global,
-    rules: u32,
-    bytes: usize,
-    steps: u32,
-    free: u16,
-) -> Result<String, AllocError>
-    ensures { IfOk result (λ s. string_bytes s ≡ ok_line rules bytes steps free) }
-{
-    format!(in heap; "ok rules={rules} bytes={bytes} steps={steps} free={free}\n")
+// What became of an input.
+pub type Outcome = Result<Answered, InputTooLong>;
+
+impl InputTooLong {
+    // The number that the refusal is reported with.
+    pub fn number(self) -> u8
+        ensures { result ≡ 16 }
+    {
+        16
+    }
 }
 
-fn cleared_line(heap: Global, number: u16, free: u16) -> Result<String, AllocError>
-    ensures { IfOk result (λ s. string_bytes s ≡ cleared_line number free) }
-{
-    format!(in heap; "ok cleared={number} free={free}\n")
-}
-
-fn fetched_line(heap: Global, length: usize, free: u16) -> Result<String, AllocError>
-    ensures { IfOk result (λ s. string_bytes s ≡ fetched_line length free) }
-{
-    format!(in heap; "ok fetched={length} free={free}\n")
-}
-
-fn free_line(heap: Global, free: u16) -> Result<String, AllocError>
-    ensures { IfOk result (λ s. string_bytes s ≡ free_line free) }
-{
-    format!(in heap; "ok free={free}\n")
-}
-
-fn no_line(heap: Global, number: u8, events: u32, bytes: usize) -> Result<String, AllocError>
-    ensures { IfOk result (λ s. string_bytes s ≡ no_line number events bytes) }
-{
-    format!(in heap; "no {number} event={events} at={bytes}\n")
-}
-
-fn fault_line(
-    heap: Global,
+// The number of a refusal, and its counts.
+#[derive(Clone, Copy)]
+struct Counted {
     number: u8,
     events: u32,
     bytes: usize,
-    fault: u8,
-    place: usize,
-) -> Result<String, AllocError>
-    ensures { IfOk result (λ s. string_bytes s ≡ fault_line number events bytes fault place) }
-{
-    format!(in heap; "no {number} event={events} at={bytes} guide={fault} place={place}\n")
 }
 
-fn refusal_line(heap: Global, refusal: Refusal) -> Result<String, AllocError>
-    ensures { IfOk result (λ s. string_bytes s ≡ refusal_line refusal) }
-{
-    let Refusal {
-        reason,
-        events,
-        bytes,
-    } = refusal;
-    let number = reason.number();
-    match reason {
-        Reason::Check(verdict::Reason::GuideFault { defect, place }) => fault_line(
-            heap,
-            number,
-            events,
-            bytes,
-            defect.number(),
-            place,
-        ),
-        _ => no_line(heap, number, events, bytes),
+impl fmt::Display for Counted {
+    ghost output = { λ c. Some (no_text c.number c.events c.bytes) };
+
+    fn fmt<W: fmt::Write>(&self, f: &mut fmt::Formatter<W>) -> fmt::Result {
+        write!(
+            f,
+            "no {} event={} at={}",
+            self.number, self.events, self.bytes
+        )
+    }
+}
+
+impl fmt::Display for InputTooLong {
+    ghost output = { λ _. Some too_long_text };
+
+    fn fmt<W: fmt::Write>(&self, f: &mut fmt::Formatter<W>) -> fmt::Result {
+        let counted = Counted {
+            number: self.number(),
+            events: 0,
+            bytes: 0,
+        };
+        write!(f, "{counted}")
+    }
+}
+
+// A refusal as a line shows it.
+#[derive(Clone, Copy)]
+pub struct Shown(pub Refusal);
+
+impl fmt::Display for Shown {
+    ghost output = { λ s. Some (refusal_text s.0) };
+
+    fn fmt<W: fmt::Write>(&self, f: &mut fmt::Formatter<W>) -> fmt::Result {
+        let refusal = self.0;
+        let counted = Counted {
+            number: refusal.number(),
+            events: refusal.events(),
+            bytes: refusal.bytes(),
+        };
+        write!(f, "{counted}")?;
+        match refusal {
+            Refusal::Check(
+                verdict::Refusal {
+                    reason: verdict::Reason::GuideFault(fault),
+                    ..
+                },
+            ) => write!(f, " guide={} place={}", fault.defect.number(), fault.place),
+            _ => Ok(()),
+        }
+    }
+}
+
+impl fmt::Display for Answered {
+    ghost output = { λ a. Some (answer_text a.answer a.free) };
+
+    fn fmt<W: fmt::Write>(&self, f: &mut fmt::Formatter<W>) -> fmt::Result {
+        let free = self.free;
+        match self.answer {
+            Ok(Answer::Loaded(accepted)) => write!(
+                f,
+                "ok rules={} bytes={} steps={} free={free}",
+                accepted.rules, accepted.bytes, accepted.steps
+            ),
+            Ok(Answer::Cleared(number)) => write!(f, "ok cleared={number} free={free}"),
+            Ok(Answer::Fetched(length)) => write!(f, "ok fetched={length} free={free}"),
+            Ok(Answer::Free(blocks)) => write!(f, "ok free={blocks}"),
+            Err(refusal) => write!(f, "{}", Shown(refusal)),
+        }
     }
 }
 
 // The line for an answer after which so many blocks are free, or an error where memory runs out.
-pub fn answer_line(heap: Global, answer: Answer, free: u16) -> Result<String, AllocError>
-    ensures { IfOk result (λ s. string_bytes s ≡ answer_line answer free) }
+pub fn answer_line(heap: Global, answered: Answered) -> Result<String, AllocError>
+    ensures { IfOk result (λ s. string_bytes s ≡ answer_line answered.answer answered.free) }
 {
-    match answer {
-        Answer::Loaded(accepted) => ok_line(
-            heap,
-            accepted.rules,
-            accepted.bytes,
-            accepted.steps,
-            free,
-        ),
-        Answer::Cleared(number) => cleared_line(heap, number, free),
-        Answer::Fetched(length) => fetched_line(heap, length, free),
-        Answer::Free(blocks) => free_line(heap, blocks),
-        Answer::Refused(refusal) => refusal_line(heap, refusal),
-    }
+    format!(in heap; "{answered}\n")
 }
 
 // One line, ended by byte 10, or an error where memory runs out.
@@ -111,7 +121,7 @@ pub fn line(heap: Global, outcome: Outcome) -> Result<String, AllocError>
     ensures { IfOk result (λ s. string_bytes s ≡ line_of outcome) }
 {
     match outcome {
-        Outcome::Answered { answer, free } => answer_line(heap, answer, free),
-        Outcome::InputTooLong => no_line(heap, INPUT_TOO_LONG, 0, 0),
+        Ok(answered) => answer_line(heap, answered),
+        Err(too_long) => format!(in heap; "{too_long}\n"),
     }
 }

@@ -2,33 +2,32 @@
 ghost use Rattle.std.specs.Prelude.{◌≡◌, take, drop};
 ghost use Rattle.report.specs.Spot.{spot_length, points_at, spotted, StandsAt};
 
-use cues::answers::{Reason, Refusal};
-use tree::verdict;
+use cues::answers::Refusal;
+use tree::verdict::Reason;
 
-// An offset in the text, an offset in the guide's bytes, or none.
-#[derive(Clone, Copy)]
+// An offset in the text, or in the guide's bytes.
+#[derive(Clone, Copy, PartialEq, Eq)]
 pub enum Place {
     InText(usize),
     InGuide(usize),
-    Nowhere,
 }
 
 // How many bytes are handed out, where there are so many.
 const SPOT_LENGTH: usize = 16;
 
-// Where the refusal points.
-pub fn place_of(refusal: Refusal) -> Place
+// Where the refusal points, or None where it points nowhere.
+pub fn place_of(refusal: Refusal) -> Option<Place>
     ensures { result ≡ points_at refusal }
 {
-    let Reason::Check(reason) = refusal.reason else {
-        return Place::Nowhere;
+    let Refusal::Check(refusal) = refusal else {
+        return None;
     };
-    match reason {
-        verdict::Reason::GuideFault { place, .. } => Place::InGuide(place),
-        verdict::Reason::ByteNotAllowed
-        | verdict::Reason::ByteNotNext
-        | verdict::Reason::TextLeft => Place::InText(refusal.bytes),
-        _ => Place::Nowhere,
+    match refusal.reason {
+        Reason::GuideFault(fault) => Some(Place::InGuide(fault.place)),
+        Reason::ByteNotAllowed | Reason::ByteNotNext | Reason::TextLeft => {
+            Some(Place::InText(refusal.bytes))
+        }
+        _ => None,
     }
 }
 
@@ -46,8 +45,8 @@ pub fn spot<'a>(refusal: Refusal, text: &'a [u8], guide: &'a [u8]) -> &'a [u8]
     ensures stands { StandsAt (points_at refusal) text.now guide.now result.now }
 {
     match place_of(refusal) {
-        Place::InText(at) => part_from(text, at),
-        Place::InGuide(at) => part_from(guide, at),
-        Place::Nowhere => &text[0..0],
+        Some(Place::InText(at)) => part_from(text, at),
+        Some(Place::InGuide(at)) => part_from(guide, at),
+        None => &text[0..0],
     }
 }

@@ -1,94 +1,130 @@
-// Answers as both checkers give them, in one form that can be compared and printed.
-use crate::Move;
+// Answers to calls.
+use crate::failure::Failure;
+use crate::reading::Fault;
 use std::fmt;
 
-// A fault of a guide, by its number.
+// What the check says of an accepted cue: its rule nodes, its bytes, and how many answers of the guide it took.
 #[derive(Clone, Copy, PartialEq, Eq)]
-pub struct Fault {
-    pub number: u8,
-    pub place: usize,
-}
-
-#[derive(Clone, Copy, PartialEq, Eq)]
-pub struct No {
-    pub number: u8,
-    pub events: usize,
+pub struct Loaded {
+    pub rules: usize,
     pub bytes: usize,
-    pub fault: Option<Fault>,
+    pub steps: usize,
 }
 
 #[derive(Clone, Copy, PartialEq, Eq)]
 pub enum Said {
-    Loaded {
-        rules: usize,
-        bytes: usize,
-        steps: usize,
-    },
+    Loaded(Loaded),
     Cleared(u16),
     Fetched(usize),
     Free(usize),
-    Refused(No),
 }
 
-// What a guide says next.
+// What can be wrong at one answer of a guide, in the order in which it is asked.
+#[derive(Clone, Copy, PartialEq, Eq, PartialOrd, Ord)]
+pub enum Flaw {
+    GuideFault(Fault),
+    TooManyEvents,
+    WrongKind,
+    NoRule,
+    WrongSymbol,
+    NoFrame,
+    WrongByte,
+    NotInText,
+    TextOver,
+}
+
 #[derive(Clone, Copy, PartialEq, Eq)]
-pub enum Told {
-    Event(Move),
-    End,
-    Broken(Fault),
+pub enum Reason {
+    NumberOutside,
+    AlreadyHeld,
+    LongText,
+    NoRoom,
+    Flaw(Flaw),
+    NotHeld,
+    ShortBuffer,
+    LongInput,
+}
+
+// A refusal, and how many events and bytes of the guide were well before it.
+#[derive(Clone, Copy, PartialEq, Eq)]
+pub struct Refusal {
+    pub reason: Reason,
+    pub events: usize,
+    pub bytes: usize,
+}
+
+impl Flaw {
+    fn number(self) -> u8 {
+        match self {
+            Flaw::GuideFault(_) => 5,
+            Flaw::TooManyEvents => 6,
+            Flaw::WrongKind => 7,
+            Flaw::NoRule => 8,
+            Flaw::WrongSymbol => 9,
+            Flaw::NoFrame => 10,
+            Flaw::WrongByte => 11,
+            Flaw::NotInText => 12,
+            Flaw::TextOver => 13,
+        }
+    }
+}
+
+impl Reason {
+    pub(crate) fn number(self) -> u8 {
+        match self {
+            Reason::NumberOutside => 1,
+            Reason::AlreadyHeld => 2,
+            Reason::LongText => 3,
+            Reason::NoRoom => 4,
+            Reason::Flaw(flaw) => flaw.number(),
+            Reason::NotHeld => 14,
+            Reason::ShortBuffer => 15,
+            Reason::LongInput => 16,
+        }
+    }
 }
 
 // A refusal before any event.
-pub(crate) fn at_once(number: u8) -> Said {
-    Said::Refused(No {
-        number,
-        events: 0,
-        bytes: 0,
-        fault: None,
-    })
+impl From<Reason> for Refusal {
+    fn from(reason: Reason) -> Refusal {
+        Refusal {
+            reason,
+            events: 0,
+            bytes: 0,
+        }
+    }
+}
+
+impl From<Reason> for Failure<Refusal> {
+    fn from(reason: Reason) -> Failure<Refusal> {
+        Failure::Refused(Refusal::from(reason))
+    }
+}
+
+impl From<Refusal> for Failure<Refusal> {
+    fn from(refusal: Refusal) -> Failure<Refusal> {
+        Failure::Refused(refusal)
+    }
+}
+
+impl fmt::Display for Loaded {
+    fn fmt<W: fmt::Write>(&self, f: &mut fmt::Formatter<W>) -> fmt::Result {
+        let Loaded {
+            rules,
+            bytes,
+            steps,
+        } = self;
+        write!(f, "ok rules={rules} bytes={bytes} steps={steps}")
+    }
 }
 
 impl fmt::Display for Said {
     fn fmt<W: fmt::Write>(&self, f: &mut fmt::Formatter<W>) -> fmt::Result {
         match self {
-            Said::Loaded {
-                rules,
-                bytes,
-                steps,
-            } => write!(f, "ok rules={rules} bytes={bytes} steps={steps}"),
+            Said::Loaded(loaded) => write!(f, "{loaded}"),
             Said::Cleared(number) => write!(f, "ok cleared={number}"),
             Said::Fetched(length) => write!(f, "ok fetched={length}"),
             Said::Free(blocks) => write!(f, "ok free={blocks}"),
-            Said::Refused(no) => {
-                let number = no.number;
-                let events = no.events;
-                let bytes = no.bytes;
-                write!(f, "no {number} event={events} at={bytes}")?;
-                match no.fault {
-                    Some(fault) => {
-                        let guide = fault.number;
-                        let place = fault.place;
-                        write!(f, " guide={guide} place={place}")
-                    }
-                    None => Ok(()),
-                }
-            }
-        }
-    }
-}
-
-impl fmt::Display for Told {
-    fn fmt<W: fmt::Write>(&self, f: &mut fmt::Formatter<W>) -> fmt::Result {
-        match self {
-            Told::Event(Move::Enter(rule)) => write!(f, "enter {rule}"),
-            Told::Event(Move::Byte(byte)) => write!(f, "byte {byte}"),
-            Told::Event(Move::Leave) => write!(f, "leave"),
-            Told::End => write!(f, "end"),
-            Told::Broken(fault) => {
-                let number = fault.number;
-                let place = fault.place;
-                write!(f, "fault {number} at {place}")
-            }
         }
     }
 }

@@ -1,28 +1,15 @@
 // The second check: the whole tree is built from the brackets, each node is looked at for itself, and of all that is wrong
 // the earliest counts.
 use crate::Move;
-use crate::answers::{Fault, No, Said};
+use crate::answers::{Flaw, Loaded, Reason, Refusal};
+use crate::failure::Failure;
 use crate::plain::{Piece, Plain};
-use crate::reading::{End, Guided};
+use crate::reading::Guided;
 use std::alloc::{AllocError, Global};
 
 const MOST_EVENTS: usize = 16_000;
 
 const MOST_FRAMES: usize = 1_024;
-
-// What can be wrong at one answer of a guide, in the order in which it is asked.
-#[derive(Clone, Copy, PartialEq, Eq, PartialOrd, Ord)]
-enum Flaw {
-    GuideFault,
-    TooManyEvents,
-    WrongKind,
-    NoRule,
-    WrongSymbol,
-    NoFrame,
-    WrongByte,
-    NotInText,
-    TextOver,
-}
 
 // A flaw, and how many answers of the guide came before it.
 #[derive(Clone, Copy, PartialEq, Eq, PartialOrd, Ord)]
@@ -37,13 +24,19 @@ enum Label {
     Leaf(u8),
 }
 
-// A node of the tree: the open node above it and its place among that node's children, how many nodes were open and how many
-// leaves told before it, how many children it has, and the events at which it was entered and, if ever, left.
+// The edge to a node from its parent: the parent's label, and the node's place among the parent's children.
+#[derive(Clone, Copy)]
+struct Edge {
+    parent: Label,
+    place: usize,
+}
+
+// A node of the tree: how many nodes were open and how many leaves told before it, how many children it has, and the events at
+// which it was entered and, if ever, left.
 #[derive(Clone, Copy)]
 struct Node {
     label: Label,
-    parent: Option<usize>,
-    place: usize,
+    edge: Option<Edge>,
     above: usize,
     leaves: usize,
     children: usize,
@@ -51,27 +44,19 @@ struct Node {
     left: Option<usize>,
 }
 
-// The nodes in the order in which they were entered, the leaves in all, and the first leave for which no node was open.
+// The nodes that are open, the newest last, those that were left, the leaves, and the first leave for which no node was open.
+// No node is held in its parent: a guide can open more than 16,000, and recursion over as many levels may exhaust the stack.
 #[derive(Drop)]
 struct Tree {
-    nodes: Vec<Node>,
-    leaves: usize,
+    open: Vec<Node>,
+    closed: Vec<Node>,
+    leaves: Vec<Node>,
     stray: Option<usize>,
 }
 
 impl Flaw {
-    fn number(self) -> u8 {
-        match self {
-            Flaw::GuideFault => 5,
-            Flaw::TooManyEvents => 6,
-            Flaw::WrongKind => 7,
-            Flaw::NoRule => 8,
-            Flaw::WrongSymbol => 9,
-            Flaw::NoFrame => 10,
-            Flaw::WrongByte => 11,
-            Flaw::NotInText => 12,
-            Flaw::TextOver => 13,
-        }
+    fn at(self, event: usize) -> Found {
+        Found { event, flaw: self }
     }
 }
 
@@ -82,134 +67,113 @@ pub(crate) fn judge(
     guided: &Guided,
     text: &[u8],
     frames: usize,
-) -> Result<Said, AllocError> {
+) -> Result<Loaded, Failure<Refusal>> {
     let moves = guided.moves.as_slice();
     let tree = plant(heap, moves)?;
-    let mut first = finish_flaw(&tree, guided, text.len());
-    for node in tree.nodes.iter() {
-        let entering = entering_flaw(grammar, &tree, node, text, frames.min(MOST_FRAMES));
-        first = earlier(first, node.entered, entering);
-        if let Some(event) = node.left {
-            first = earlier(first, event, leaving_flaw(grammar, node));
-        }
-    }
-    if let Some(event) = tree.stray {
-        first = earlier(first, event, Some(Flaw::WrongKind));
-    }
-    if moves.len() > MOST_EVENTS {
-        first = earlier(first, MOST_EVENTS, Some(Flaw::TooManyEvents));
-    }
-    Ok(match first {
-        Some(found) => refusal(guided, found),
-        None => Said::Loaded {
-            rules: tree.nodes.len().saturating_sub(tree.leaves),
-            bytes: tree.leaves,
-            steps: moves.len().saturating_add(1),
-        },
-    })
-}
-
-fn earlier(first: Option<Found>, event: usize, flaw: Option<Flaw>) -> Option<Found> {
-    match (first, flaw) {
-        (Some(first), Some(flaw)) => Some(first.min(Found { event, flaw })),
-        (None, Some(flaw)) => Some(Found { event, flaw }),
-        (first, None) => first,
-    }
-}
-
-fn refusal(guided: &Guided, found: Found) -> Said {
-    let mut bytes = 0usize;
-    for each in guided.moves.iter().take(found.event) {
-        if let Move::Byte(_) = each {
-            bytes = bytes.saturating_add(1);
-        }
-    }
-    let fault = match (found.flaw, guided.end) {
-        (Flaw::GuideFault, End::Fault { wrong, place }) => Some(Fault {
-            number: wrong.number(),
-            place,
+    match first_flaw(grammar, &tree, guided, text, frames.min(MOST_FRAMES)) {
+        Some(found) => Err(refusal(moves, found).into()),
+        None => Ok(Loaded {
+            rules: tree.closed.len(),
+            bytes: tree.leaves.len(),
+            steps: moves.len() + 1,
         }),
-        _ => None,
-    };
-    Said::Refused(No {
-        number: found.flaw.number(),
+    }
+}
+
+fn refusal(moves: &[Move], found: Found) -> Refusal {
+    let before = moves.iter().take(found.event);
+    Refusal {
+        reason: Reason::Flaw(found.flaw),
         events: found.event,
-        bytes,
-        fault,
-    })
+        bytes: before.filter(|each| matches!(each, Move::Byte(_))).count(),
+    }
 }
 
 fn plant(heap: Global, moves: &[Move]) -> Result<Tree, AllocError> {
     let mut tree = Tree {
-        nodes: Vec::new(heap),
-        leaves: 0,
+        open: Vec::new(heap),
+        closed: Vec::new(heap),
+        leaves: Vec::new(heap),
         stray: None,
     };
-    let mut open = Vec::new(heap);
     for (event, each) in moves.iter().enumerate() {
         match each {
             Move::Enter(rule) => {
-                let number = tree.attach(open.as_slice(), Label::Rule(*rule), event)?;
-                open.push(number)?;
+                let node = tree.child(Label::Rule(*rule), event);
+                tree.open.push(node)?
             }
             Move::Byte(byte) => {
-                let _ = tree.attach(open.as_slice(), Label::Leaf(*byte), event)?;
-                tree.leaves = tree.leaves.saturating_add(1);
+                let leaf = tree.child(Label::Leaf(*byte), event);
+                tree.leaves.push(leaf)?
             }
-            Move::Leave => {
-                let newest = open.pop();
-                tree.leave(newest, event);
-            }
+            Move::Leave => match tree.open.pop() {
+                Some(node) => tree.closed.push(Node {
+                    left: Some(event),
+                    ..node
+                })?,
+                None => tree.stray = tree.stray.or(Some(event)),
+            },
         }
     }
     Ok(tree)
 }
 
 impl Tree {
-    // Adds a child of the newest open node, and gives its number.
-    fn attach(
-        &mut self,
-        open: &[usize],
-        label: Label,
-        entered: usize,
-    ) -> Result<usize, AllocError> {
-        let number = self.nodes.len();
-        let parent = open.last().copied();
-        let mut place = 0;
-        if let Some(above) = parent
-            && let Some(node) = self.nodes.get_mut(above)
-        {
-            place = node.children;
-            node.children = place.saturating_add(1);
-        }
-        let leaves = self.leaves;
-        self.nodes.push(Node {
+    // A new child of the newest open node.
+    fn child(&mut self, label: Label, entered: usize) -> Node {
+        Node {
             label,
-            parent,
-            place,
-            above: open.len(),
-            leaves,
+            above: self.open.len(),
+            edge: self.open.last_mut().map(|parent| parent.next_edge()),
+            leaves: self.leaves.len(),
             children: 0,
             entered,
             left: None,
-        })?;
-        Ok(number)
-    }
-
-    fn leave(&mut self, newest: Option<usize>, event: usize) {
-        match newest {
-            Some(number) => {
-                if let Some(node) = self.nodes.get_mut(number) {
-                    node.left = Some(event);
-                }
-            }
-            None => {
-                if self.stray.is_none() {
-                    self.stray = Some(event);
-                }
-            }
         }
     }
+}
+
+impl Node {
+    // The edge to one more child.
+    fn next_edge(&mut self) -> Edge {
+        let place = self.children;
+        self.children = place.saturating_add(1);
+        Edge {
+            parent: self.label,
+            place,
+        }
+    }
+}
+
+fn first_flaw(
+    grammar: &Plain,
+    tree: &Tree,
+    guided: &Guided,
+    text: &[u8],
+    frames: usize,
+) -> Option<Found> {
+    let nodes = tree
+        .closed
+        .iter()
+        .chain(tree.open.iter())
+        .chain(tree.leaves.iter());
+    let entering = nodes.filter_map(|node| entering_flaw(grammar, node, text, frames).map(
+        |flaw| flaw.at(node.entered),
+    ));
+    let leaving = tree
+        .closed
+        .iter()
+        .filter_map(|node| leaving_flaw(grammar, node));
+    let stray = tree.stray.map(|event| Flaw::WrongKind.at(event));
+    let too_many = (guided.moves.len() > MOST_EVENTS).then_some(Flaw::TooManyEvents.at(
+        MOST_EVENTS,
+    ));
+    entering
+        .chain(leaving)
+        .chain(stray)
+        .chain(too_many)
+        .chain(finish_flaw(tree, guided, text.len()))
+        .min()
 }
 
 fn pieces_of(grammar: &Plain, label: Label) -> &[Piece] {
@@ -223,25 +187,15 @@ fn pieces_of(grammar: &Plain, label: Label) -> &[Piece] {
 }
 
 // What the node is to match: the start symbol at the first node of all, else a part of the rule above it.
-fn awaited(grammar: &Plain, tree: &Tree, node: &Node) -> Option<Piece> {
-    match node.parent {
-        Some(parent) => {
-            let above = tree.nodes.get(parent)?;
-            pieces_of(grammar, above.label).get(node.place).copied()
-        }
-        None if node.entered == 0 => Some(Piece::Symbol(grammar.start)),
-        None => None,
+fn awaited(grammar: &Plain, node: &Node) -> Option<Piece> {
+    match node.edge {
+        Some(edge) => pieces_of(grammar, edge.parent).get(edge.place).copied(),
+        None => (node.entered == 0).then_some(Piece::Symbol(grammar.start)),
     }
 }
 
-fn entering_flaw(
-    grammar: &Plain,
-    tree: &Tree,
-    node: &Node,
-    text: &[u8],
-    frames: usize,
-) -> Option<Flaw> {
-    match (node.label, awaited(grammar, tree, node)) {
+fn entering_flaw(grammar: &Plain, node: &Node, text: &[u8], frames: usize) -> Option<Flaw> {
+    match (node.label, awaited(grammar, node)) {
         (Label::Rule(rule), Some(Piece::Symbol(symbol))) => match grammar.rule(rule) {
             None => Some(Flaw::NoRule),
             Some(rule) if rule.left != symbol => Some(Flaw::WrongSymbol),
@@ -254,7 +208,7 @@ fn entering_flaw(
         (Label::Leaf(byte), Some(piece)) => {
             if !piece.admits(byte) {
                 Some(Flaw::WrongByte)
-            } else if text.get(node.leaves).copied() != Some(byte) {
+            } else if text.get(node.leaves) != Some(&byte) {
                 Some(Flaw::NotInText)
             } else {
                 None
@@ -264,26 +218,19 @@ fn entering_flaw(
 }
 
 // A node that is left must have a child for each part of its rule.
-fn leaving_flaw(grammar: &Plain, node: &Node) -> Option<Flaw> {
-    if node.children < pieces_of(grammar, node.label).len() {
-        Some(Flaw::WrongKind)
-    } else {
-        None
-    }
+fn leaving_flaw(grammar: &Plain, node: &Node) -> Option<Found> {
+    let flaw = Flaw::WrongKind.at(node.left?);
+    (node.children < pieces_of(grammar, node.label).len()).then_some(flaw)
 }
 
 // What is wrong with the finish, behind the last event.
 fn finish_flaw(tree: &Tree, guided: &Guided, text: usize) -> Option<Found> {
-    let event = guided.moves.len();
-    let whole = match tree.nodes.first() {
-        Some(root) => root.left.is_some(),
-        None => false,
-    };
+    let whole = tree.closed.iter().any(|node| node.entered == 0);
     let flaw = match guided.end {
-        End::Fault { .. } => Flaw::GuideFault,
-        End::Well if !whole => Flaw::WrongKind,
-        End::Well if tree.leaves < text => Flaw::TextOver,
-        End::Well => return None,
+        Err(fault) => Flaw::GuideFault(fault),
+        Ok(()) if !whole => Flaw::WrongKind,
+        Ok(()) if tree.leaves.len() < text => Flaw::TextOver,
+        Ok(()) => return None,
     };
-    Some(Found { event, flaw })
+    Some(flaw.at(guided.moves.len()))
 }

@@ -3,12 +3,17 @@
 #![tactic(auto)]
 
 pub mod answers;
+pub mod failure;
 mod judge;
 pub mod line;
+pub mod numbers;
 pub mod plain;
 pub mod reading;
 pub mod sheet;
 pub mod table;
+pub mod writing;
+
+use std::fmt;
 
 // One event of a guide.
 #[derive(Clone, Copy, PartialEq, Eq)]
@@ -16,6 +21,22 @@ pub enum Move {
     Enter(u16),
     Byte(u8),
     Leave,
+}
+
+// Four numbers of two bytes each, the higher byte first.
+pub(crate) fn pairs(bytes: &[u8; 8]) -> [u16; 4] {
+    let [a, b, c, d, e, f, g, h] = *bytes;
+    [[a, b], [c, d], [e, f], [g, h]].map(u16::from_be_bytes)
+}
+
+impl fmt::Display for Move {
+    fn fmt<W: fmt::Write>(&self, f: &mut fmt::Formatter<W>) -> fmt::Result {
+        match self {
+            Move::Enter(rule) => write!(f, "enter {rule}"),
+            Move::Byte(byte) => write!(f, "byte {byte}"),
+            Move::Leave => write!(f, "leave"),
+        }
+    }
 }
 
 // The number in 16 bits; the largest of these where it has more.

@@ -1,45 +1,48 @@
 // The line of `cueline`.
-use crate::answers::{Said, at_once};
+use crate::answers::{Loaded, Reason, Refusal};
+use crate::failure::answered;
+use crate::numbers;
 use crate::plain::house;
 use crate::reading::read_listing;
 use crate::sheet::Sheet;
-use crate::table::stretch;
 use std::alloc::{AllocError, Global};
 
 const MOST_INPUT: usize = 60_000;
 
 const FRAMES: usize = 1_024;
 
-// What is said of an input, and the line for it.
-pub fn line_for(heap: Global, input: &[u8]) -> Result<(Said, String), AllocError> {
-    let (said, free) = load_alone(heap, input)?;
+// What is said of an input as cue 1 of an empty memory, and the line for it.
+pub fn line_for(
+    heap: Global,
+    input: &[u8],
+) -> Result<(Result<Loaded, Refusal>, String), AllocError> {
+    let mut sheet = Sheet::new(heap);
+    let said = load_alone(heap, &mut sheet, input)?;
     let line = match said {
-        Said::Loaded { .. } => format!(in heap; "{said} free={free}\n")?,
-        _ => format!(in heap; "{said}\n")?,
+        Ok(loaded) => {
+            let free = sheet.free();
+            format!(in heap; "{loaded} free={free}\n")?
+        }
+        Err(refusal) => {
+            let refusal = numbers::Refusal::from(refusal);
+            format!(in heap; "{refusal}\n")?
+        }
     };
     Ok((said, line))
 }
 
-// What loading an input as cue 1 of an empty memory gives, and the blocks that are then free.
-fn load_alone(heap: Global, input: &[u8]) -> Result<(Said, usize), AllocError> {
-    let mut sheet = Sheet::new(heap);
+// The text stands before the first byte 10, and the listing behind it.
+fn load_alone(
+    heap: Global,
+    sheet: &mut Sheet,
+    input: &[u8],
+) -> Result<Result<Loaded, Refusal>, AllocError> {
     if input.len() > MOST_INPUT {
-        return Ok((at_once(16), sheet.free()));
+        return Ok(Err(Reason::LongInput.into()));
     }
-    let text = first_line(input);
-    let behind = text.len().saturating_add(1);
-    let listing = stretch(input, behind, input.len().saturating_sub(behind));
+    let mut parts = input.splitn(2, |byte| *byte == 10);
+    let text = parts.next().unwrap_or(input);
+    let listing = parts.next().unwrap_or(&[]);
     let guided = read_listing(heap, listing)?;
-    let said = sheet.load(heap, 1, text, &house(heap)?, &guided, FRAMES)?;
-    Ok((said, sheet.free()))
-}
-
-// What stands before the first byte 10; all of it where there is none.
-fn first_line(input: &[u8]) -> &[u8] {
-    for (offset, byte) in input.iter().enumerate() {
-        if *byte == 10 {
-            return stretch(input, 0, offset);
-        }
-    }
-    input
+    answered(sheet.load(heap, 1, text, &house(heap)?, &guided, FRAMES))
 }

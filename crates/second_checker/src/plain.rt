@@ -1,8 +1,7 @@
 // Grammars as plain lists of rules, and the layers over them.
-use crate::narrow;
 use std::alloc::{AllocError, Global};
 
-#[derive(Clone, Copy)]
+#[derive(Clone, Copy, PartialEq, Eq)]
 pub enum Piece {
     Symbol(u16),
     Range(u8, u8),
@@ -20,8 +19,22 @@ pub struct Rule {
 #[derive(Drop)]
 pub struct Plain {
     pub start: u16,
-    pub symbols: usize,
+    pub symbols: u16,
     pub rules: Vec<Option<Rule>>,
+}
+
+// Why a rule cannot be barred.
+#[derive(Clone, Copy, PartialEq, Eq)]
+pub enum BarFlaw {
+    NumberOutside,
+}
+
+impl BarFlaw {
+    pub fn number(self) -> u8 {
+        match self {
+            BarFlaw::NumberOutside => 56,
+        }
+    }
 }
 
 impl Piece {
@@ -29,7 +42,7 @@ impl Piece {
     pub fn admits(self, byte: u8) -> bool {
         match self {
             Piece::Symbol(_) => false,
-            Piece::Range(low, high) => low <= byte && byte <= high,
+            Piece::Range(low, high) => (low..=high).contains(&byte),
             Piece::Except(x, y, z) => ![x, y, z].contains(&byte),
         }
     }
@@ -47,10 +60,7 @@ impl Plain {
 
     // The rule with that number, unless it is a gap or past the last.
     pub fn rule(&self, number: u16) -> Option<&Rule> {
-        match self.rules.get(usize::from(number)) {
-            Some(Some(rule)) => Some(rule),
-            _ => None,
-        }
+        self.rules.get(usize::from(number))?.as_ref()
     }
 
     pub fn add(
@@ -69,21 +79,16 @@ impl Plain {
         Ok(())
     }
 
-    // Each barred number that has a rule becomes a gap.
-    pub fn bar(&mut self, bars: &[u16]) {
-        for number in bars {
-            if bar_refusal(*number).is_none()
-                && let Some(rule) = self.rules.get_mut(usize::from(*number))
-            {
-                *rule = None;
-            }
+    // The rule with that number, if there is one, becomes a gap.
+    pub fn bar(&mut self, number: u16) -> Result<(), BarFlaw> {
+        if number >= 1_024 {
+            return Err(BarFlaw::NumberOutside);
         }
+        if let Some(rule) = self.rules.get_mut(usize::from(number)) {
+            *rule = None;
+        }
+        Ok(())
     }
-}
-
-// The number by which a bar is refused.
-pub fn bar_refusal(number: u16) -> Option<u8> {
-    if number < 1_024 { None } else { Some(56) }
 }
 
 // The house grammar, from its table in docs/grammars.md.
@@ -105,7 +110,7 @@ pub fn house(heap: Global) -> Result<Plain, AllocError> {
     house.add(heap, 2, false, &[digit, num])?;
     house.add(heap, 0, false, &[Piece::Range(b'#', b'#'), rest])?;
     house.add(heap, 3, false, &[])?;
-    house.add(heap, 3, false, &[Piece::Except(10, 13, 10), rest])?;
+    house.add(heap, 3, false, &[Piece::Except(10, 13, 13), rest])?;
     Ok(house)
 }
 
@@ -114,31 +119,22 @@ pub fn spaced(heap: Global, below: Plain) -> Result<Plain, AllocError> {
     if below.rules.len() > 1_022 || below.symbols > 255 {
         return Ok(below);
     }
-    let Plain {
-        start,
-        symbols,
-        rules: below,
-    } = below;
-    let blank = narrow(symbols);
-    let mut rules = Vec::new(heap);
-    for rule in below {
-        match rule {
-            Some(rule) => rules.push(Some(spread(heap, rule, blank)?))?,
-            None => rules.push(None)?,
-        }
-    }
+    let blank = below.symbols;
     let mut above = Plain {
-        start,
-        symbols: symbols.saturating_add(1),
-        rules,
+        start: below.start,
+        symbols: blank + 1,
+        rules: Vec::new(heap),
     };
+    for rule in below.rules {
+        let rule = match rule {
+            Some(rule) => Some(spread(heap, rule, blank)?),
+            None => None,
+        };
+        above.rules.push(rule)?;
+    }
     above.add(heap, blank, false, &[])?;
-    above.add(
-        heap,
-        blank,
-        false,
-        &[Piece::Range(b' ', b' '), Piece::Symbol(blank)],
-    )?;
+    let space = Piece::Range(b' ', b' ');
+    above.add(heap, blank, false, &[space, Piece::Symbol(blank)])?;
     Ok(above)
 }
 
@@ -146,16 +142,11 @@ fn spread(heap: Global, rule: Rule, blank: u16) -> Result<Rule, AllocError> {
     if !rule.loose || rule.pieces.len() < 2 || rule.pieces.len() > 128 {
         return Ok(rule);
     }
-    let mut pieces = Vec::new(heap);
-    for (i, piece) in rule.pieces.iter().enumerate() {
-        if i > 0 {
-            pieces.push(Piece::Symbol(blank))?;
-        }
-        pieces.push(*piece)?;
-    }
+    let blanks_before = |piece: &Piece| [Piece::Symbol(blank), *piece];
+    let pieces = rule.pieces.iter().flat_map(blanks_before).skip(1);
     Ok(Rule {
         left: rule.left,
         loose: false,
-        pieces,
+        pieces: pieces.collect(heap)?,
     })
 }

@@ -1,11 +1,12 @@
 // The second reading of guides: from the bytes to all the moves and the finish at once.
-use crate::Move;
-use crate::answers::{Fault, Said, Told};
-use crate::table::{byte_at, pair_at, stretch};
+use crate::answers::{Reason, Refusal, Said};
+use crate::failure::{Failure, answered};
+use crate::{Move, pairs};
 use std::alloc::{AllocError, Global};
+use std::str;
 
 // What a guide's bytes have wrong.
-#[derive(Clone, Copy, PartialEq, Eq)]
+#[derive(Clone, Copy, PartialEq, Eq, PartialOrd, Ord)]
 pub enum Wrong {
     LongListing,
     Line,
@@ -16,16 +17,18 @@ pub enum Wrong {
     Leftover,
 }
 
-#[derive(Clone, Copy, PartialEq, Eq)]
-pub enum End {
-    Well,
-    Fault { wrong: Wrong, place: usize },
+// What is wrong, and where in the bytes.
+#[derive(Clone, Copy, PartialEq, Eq, PartialOrd, Ord)]
+pub struct Fault {
+    pub wrong: Wrong,
+    pub place: usize,
 }
 
+// The moves, and how they end: well, or at a fault.
 #[derive(Drop)]
 pub struct Guided {
     pub moves: Vec<Move>,
-    pub end: End,
+    pub end: Result<(), Fault>,
 }
 
 impl Wrong {
@@ -40,24 +43,36 @@ impl Wrong {
             Wrong::Leftover => 45,
         }
     }
+
+    fn at(self, place: usize) -> Fault {
+        Fault { wrong: self, place }
+    }
+}
+
+impl From<Fault> for Failure<Fault> {
+    fn from(fault: Fault) -> Failure<Fault> {
+        Failure::Refused(fault)
+    }
 }
 
 impl Guided {
     // What the guide says next behind a call with that answer: an accepted load took as many answers as it has steps, one that the
     // check refused took one more than its events, and any other call took none.
-    pub fn told_behind(&self, said: Said) -> Told {
+    pub fn told_behind(&self, said: Result<Said, Refusal>) -> Result<Option<Move>, Fault> {
         let taken = match said {
-            Said::Loaded { steps, .. } => steps,
-            Said::Refused(no) if no.number >= 5 && no.number <= 13 => no.events.saturating_add(1),
+            Ok(Said::Loaded(loaded)) => loaded.steps,
+            Err(
+                Refusal {
+                    reason: Reason::Flaw(_),
+                    events,
+                    ..
+                },
+            ) => events.saturating_add(1),
             _ => 0,
         };
-        match (self.moves.get(taken), self.end) {
-            (Some(found), _) => Told::Event(*found),
-            (None, End::Well) => Told::End,
-            (None, End::Fault { wrong, place }) => Told::Broken(Fault {
-                number: wrong.number(),
-                place,
-            }),
+        match self.moves.get(taken) {
+            Some(found) => Ok(Some(*found)),
+            None => self.end.map(|()| None),
         }
     }
 }
@@ -71,47 +86,48 @@ const MOST_OPEN: usize = 256;
 
 pub fn read_listing(heap: Global, bytes: &[u8]) -> Result<Guided, AllocError> {
     let mut moves = Vec::new(heap);
+    let end = answered(read_lines(bytes, &mut moves))?;
+    Ok(Guided { moves, end })
+}
+
+pub fn read_link_table(heap: Global, table: &[u8]) -> Result<Guided, AllocError> {
+    let mut moves = Vec::new(heap);
+    let end = answered(read_records(heap, table, &mut moves))?;
+    Ok(Guided { moves, end })
+}
+
+fn read_lines(bytes: &[u8], moves: &mut Vec<Move>) -> Result<(), Failure<Fault>> {
     if bytes.len() > MOST_BYTES {
-        return Ok(faulty(moves, Wrong::LongListing, 0));
+        return Err(Wrong::LongListing.at(0).into());
     }
-    let mut begin = 0;
-    for (offset, byte) in bytes.iter().enumerate() {
-        if *byte == 10 {
-            match read_line(stretch(bytes, begin, offset.saturating_sub(begin))) {
-                Some(found) => moves.push(found)?,
-                None => return Ok(faulty(moves, Wrong::Line, begin)),
-            }
-            begin = offset.saturating_add(1);
-        }
+    let mut place = 0;
+    for line in bytes.split_inclusive(|byte| *byte == 10) {
+        moves.push(read_line(line).ok_or(Wrong::Line.at(place))?)?;
+        place += line.len();
     }
-    if begin < bytes.len() {
-        return Ok(faulty(moves, Wrong::Line, begin));
-    }
-    Ok(Guided {
-        moves,
-        end: End::Well,
-    })
+    Ok(())
 }
 
-fn faulty(moves: Vec<Move>, wrong: Wrong, place: usize) -> Guided {
-    Guided {
-        moves,
-        end: End::Fault { wrong, place },
-    }
-}
-
-// A line without its byte 10.
+// A line with its byte 10.
 fn read_line(line: &[u8]) -> Option<Move> {
     match line {
-        [b')'] => Some(Move::Leave),
-        [b'=', high, low] => {
+        [b')', 10] => Some(Move::Leave),
+        [b'=', high, low, 10] => {
             let byte = hex_value(*high)?
                 .checked_mul(16)?
                 .checked_add(hex_value(*low)?)?;
             Some(Move::Byte(byte))
         }
-        [b'(', b'0'] => Some(Move::Enter(0)),
-        [b'(', b'1'..=b'9', ..] if line.len() <= 5 => Some(Move::Enter(decimal(line)?)),
+        [b'(', digits @ .., 10] => Some(Move::Enter(decimal(digits)?)),
+        _ => None,
+    }
+}
+
+// A number of at most four digits, the first of which is 0 only where it is alone.
+fn decimal(digits: &[u8]) -> Option<u16> {
+    match digits {
+        [b'0'] => Some(0),
+        [b'1'..=b'9', ..] if digits.len() <= 4 => str::from_utf8(digits).ok()?.parse().ok(),
         _ => None,
     }
 }
@@ -124,103 +140,73 @@ fn hex_value(digit: u8) -> Option<u8> {
     }
 }
 
-// The number behind the bracket of a line.
-fn decimal(line: &[u8]) -> Option<u16> {
-    let mut number = 0u16;
-    for digit in line.iter().skip(1) {
-        if !digit.is_ascii_digit() {
-            return None;
-        }
-        number = number
-            .checked_mul(10)?
-            .checked_add(u16::from(digit.wrapping_sub(b'0')))?;
-    }
-    Some(number)
+// A record: its move, its first child and its next sibling, where 0 is none.
+#[derive(Clone, Copy)]
+struct Record {
+    told: Move,
+    child: u16,
+    sibling: u16,
 }
 
-// The move of the record, unless the record is out of form.
-fn read_record(record: &[u8]) -> Option<Move> {
-    let value = pair_at(record, 2);
-    match record {
-        [1, 0, _, _, _, _, _, _] if value <= 9_999 => Some(Move::Enter(u16::try_from(value).ok()?)),
-        [2, 0, 0, byte, 0, 0, _, _] => Some(Move::Byte(*byte)),
-        _ => None,
-    }
-}
-
-pub fn read_link_table(heap: Global, table: &[u8]) -> Result<Guided, AllocError> {
-    let mut moves = Vec::new(heap);
-    if table.len() > MOST_BYTES || table.len() % RECORD != 0 {
-        return Ok(faulty(moves, Wrong::TableSize, 0));
-    }
-    let mut open = Vec::new(heap);
-    for number in 0..table.len() / RECORD {
-        let place = number.saturating_mul(RECORD);
-        let record = stretch(table, place, RECORD);
-        let Some(found) = read_record(record) else {
-            return Ok(faulty(moves, Wrong::Record, place));
-        };
-        let is_rule = byte_at(record, 0) == 1;
-        if is_rule && open.len() >= MOST_OPEN {
-            return Ok(faulty(moves, Wrong::Depth, place));
-        }
-        moves.push(found)?;
-        let link = if is_rule {
-            open.push(place)?;
-            pair_at(record, 4)
-        } else {
-            pair_at(record, 6)
-        };
-        let link = close(table, &mut open, &mut moves, link)?;
-        if let Some(end) = end_behind(table, number.saturating_add(1), link) {
-            return Ok(Guided { moves, end });
-        }
-    }
-    Ok(Guided {
-        moves,
-        end: End::Well,
+// The record, unless it is out of form.
+fn read_record(record: &[u8]) -> Option<Record> {
+    let [_, value, child, sibling] = pairs(record.as_array()?);
+    let told = match record {
+        [1, 0, ..] if value <= 9_999 => Move::Enter(value),
+        [2, 0, ..] if child == 0 => Move::Byte(u8::try_from(value).ok()?),
+        _ => return None,
+    };
+    Some(Record {
+        told,
+        child,
+        sibling,
     })
 }
 
-// Closes nodes as long as the link is 0 and one is open, and gives the link that is left.
-fn close(
-    table: &[u8],
-    open: &mut Vec<usize>,
-    moves: &mut Vec<Move>,
-    link: usize,
-) -> Result<usize, AllocError> {
-    let mut link = link;
-    for _ in 0..open.len() {
-        if link != 0 {
-            break;
-        }
-        if let Some(place) = open.pop() {
+fn read_records(heap: Global, table: &[u8], moves: &mut Vec<Move>) -> Result<(), Failure<Fault>> {
+    if table.len() > MOST_BYTES || table.len() % RECORD != 0 {
+        return Err(Wrong::TableSize.at(0).into());
+    }
+    // The siblings of the open nodes, and the link by which the records go on.
+    let mut open = Vec::new(heap);
+    let mut link = 0;
+    for (place, record) in (0..table.len())
+        .step_by(RECORD)
+        .zip(table.chunks_exact(RECORD))
+    {
+        goes_on(link, place)?;
+        let record = read_record(record).ok_or(Wrong::Record.at(place))?;
+        link = match record.told {
+            Move::Enter(_) => {
+                if open.len() >= MOST_OPEN {
+                    return Err(Wrong::Depth.at(place).into());
+                }
+                open.push(record.sibling)?;
+                record.child
+            }
+            _ => record.sibling,
+        };
+        moves.push(record.told)?;
+        while link == 0
+            && let Some(sibling) = open.pop()
+        {
             moves.push(Move::Leave)?;
-            link = pair_at(table, place.saturating_add(6));
+            link = sibling;
         }
     }
-    Ok(link)
+    if link != 0 {
+        return Err(Wrong::Link.at(table.len()).into());
+    }
+    Ok(())
 }
 
-// How a table ends behind its first records, if it does: it goes on only by a link to the next record.
-fn end_behind(table: &[u8], told: usize, link: usize) -> Option<End> {
-    let place = told.saturating_mul(RECORD);
-    let over = place >= table.len();
-    if link == 0 {
-        return Some(if over {
-            End::Well
-        } else {
-            End::Fault {
-                wrong: Wrong::Leftover,
-                place,
-            }
-        });
+// The next record stands at that place: the records before it have to lead there, but for the first, before which there is none.
+fn goes_on(link: u16, place: usize) -> Result<(), Fault> {
+    if usize::from(link) * RECORD == place {
+        Ok(())
+    } else if link == 0 {
+        Err(Wrong::Leftover.at(place))
+    } else {
+        Err(Wrong::Link.at(place))
     }
-    if over || link != told {
-        return Some(End::Fault {
-            wrong: Wrong::Link,
-            place,
-        });
-    }
-    None
 }

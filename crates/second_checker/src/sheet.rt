@@ -1,9 +1,10 @@
 // The second memory: a map from numbers to texts.
-use crate::answers::{Said, at_once};
+use crate::answers::{Loaded, Reason, Refusal};
+use crate::failure::Failure;
 use crate::judge::judge;
 use crate::plain::Plain;
 use crate::reading::Guided;
-use std::alloc::{AllocError, Global};
+use std::alloc::Global;
 use std::collections::BTreeMap;
 
 const BLOCKS: usize = 512;
@@ -19,6 +20,14 @@ pub struct Sheet {
     held: BTreeMap<u16, Vec<u8>>,
 }
 
+fn may_name(number: u16) -> Result<(), Reason> {
+    if (1..=LAST_NUMBER).contains(&number) {
+        Ok(())
+    } else {
+        Err(Reason::NumberOutside)
+    }
+}
+
 impl Sheet {
     pub fn new(heap: Global) -> Sheet {
         Sheet {
@@ -31,25 +40,22 @@ impl Sheet {
     }
 
     pub fn free(&self) -> usize {
-        let mut free = BLOCKS;
-        for text in self.held.values() {
-            free = free.saturating_sub(text.len().div_ceil(BLOCK));
-        }
-        free
+        self.held.values().fold(BLOCKS, |free, text| {
+            free.saturating_sub(text.len().div_ceil(BLOCK))
+        })
     }
 
-    // The first of the questions before the check that is answered no, by its number.
-    fn no_load(&self, number: u16, text: &[u8]) -> Option<u8> {
-        if number < 1 || number > LAST_NUMBER {
-            Some(1)
-        } else if self.held.contains_key(&number) {
-            Some(2)
+    // The first of the questions before the check that is answered no.
+    fn may_load(&self, number: u16, text: &[u8]) -> Result<(), Reason> {
+        may_name(number)?;
+        if self.held.contains_key(&number) {
+            Err(Reason::AlreadyHeld)
         } else if text.len() > LONGEST_TEXT {
-            Some(3)
+            Err(Reason::LongText)
         } else if text.len().div_ceil(BLOCK) > self.free() {
-            Some(4)
+            Err(Reason::NoRoom)
         } else {
-            None
+            Ok(())
         }
     }
 
@@ -61,40 +67,27 @@ impl Sheet {
         grammar: &Plain,
         guided: &Guided,
         frames: usize,
-    ) -> Result<Said, AllocError> {
-        if let Some(no) = self.no_load(number, text) {
-            return Ok(at_once(no));
-        }
-        let said = judge(heap, grammar, guided, text, frames)?;
-        if let Said::Loaded { .. } = said {
-            let _ = self.held.insert(number, text.to_vec(heap)?)?;
-        }
-        Ok(said)
+    ) -> Result<Loaded, Failure<Refusal>> {
+        self.may_load(number, text)?;
+        let loaded = judge(heap, grammar, guided, text, frames)?;
+        let _ = self.held.insert(number, text.to_vec(heap)?)?;
+        Ok(loaded)
     }
 
-    pub fn clear(&mut self, number: u16) -> Said {
-        if number < 1 || number > LAST_NUMBER {
-            return at_once(1);
-        }
+    pub fn clear(&mut self, number: u16) -> Result<(), Reason> {
+        may_name(number)?;
         match self.held.remove(&number) {
-            Some(_) => Said::Cleared(number),
-            None => at_once(14),
+            Some(_) => Ok(()),
+            None => Err(Reason::NotHeld),
         }
     }
 
-    pub fn fetch(&self, number: u16, buffer: &mut Vec<u8>) -> Said {
-        if number < 1 || number > LAST_NUMBER {
-            return at_once(1);
-        }
-        match self.held.get(&number) {
-            None => at_once(14),
-            Some(text) if text.len() > buffer.len() => at_once(15),
-            Some(text) => {
-                for (byte, stored) in buffer.iter_mut().zip(text.iter()) {
-                    *byte = *stored;
-                }
-                Said::Fetched(text.len())
-            }
-        }
+    // Copies the text to the head of the buffer, and gives its length.
+    pub fn fetch(&self, number: u16, buffer: &mut [u8]) -> Result<usize, Reason> {
+        may_name(number)?;
+        let text = self.text(number).ok_or(Reason::NotHeld)?;
+        let room = buffer.get_mut(..text.len()).ok_or(Reason::ShortBuffer)?;
+        room.copy_from_slice(text.as_slice());
+        Ok(text.len())
     }
 }

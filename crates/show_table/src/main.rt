@@ -3,10 +3,9 @@
 
 use grammar::Grammar;
 use packed::Packed;
-use std::alloc::Global;
 use std::io;
 use std::io::Read;
-use table_text::{fault_text, head_text, mark_text, part_text};
+use table_text::head_text;
 
 // The bytes of a table of 1,000 rules.
 const LONGEST: u64 = 64008;
@@ -15,19 +14,19 @@ fn main(rt: HostRuntime) -> io::Result<()> {
     let heap = rt.alloc();
     let mut table = Vec::new(heap);
     rt.stdin().take(LONGEST).read_to_end(&mut table)?;
-    let (grammar, answer) = Packed::open(table.as_slice());
-    if let Err(fault) = answer {
-        return rt.println(fault_text(heap, fault)?);
-    }
+    let grammar = match Packed::try_from(table.as_slice()) {
+        Ok(grammar) => grammar,
+        Err(fault) => return rt.println(fault),
+    };
     rt.println(head_text(heap, &grammar)?)?;
     for rule in 0..grammar.rules() {
-        show_rule(&rt, heap, &grammar, rule)?;
+        show_rule(&rt, &grammar, rule)?;
     }
     Ok(())
 }
 
-// One line for each rule: its number and mark, its left symbol, and then its parts.
-fn show_rule(rt: &HostRuntime, heap: Global, grammar: &Packed, rule: u16) -> io::Result<()> {
+// One line for each rule number, by which a grammar answers: the number and mark, the left symbol, and then the parts.
+fn show_rule(rt: &HostRuntime, grammar: &Packed, rule: u16) -> io::Result<()> {
     let (Some(left), Some(mark), Some(count)) = (
         grammar.left(rule),
         grammar.mark(rule),
@@ -35,13 +34,9 @@ fn show_rule(rt: &HostRuntime, heap: Global, grammar: &Packed, rule: u16) -> io:
     ) else {
         return println!(rt; "{rule} gap");
     };
-    let mark = mark_text(mark);
     print!(rt; "{rule} {mark} symbol {left}:")?;
-    for k in 0..count {
-        if let Some(part) = grammar.part(rule, k) {
-            let text = part_text(heap, part)?;
-            print!(rt; " [{text}]")?;
-        }
+    for part in (0..count).filter_map(|k| grammar.part(rule, k)) {
+        print!(rt; " [{part}]")?;
     }
     println!(rt)
 }

@@ -1,24 +1,6 @@
--- How the pieces of a grammar read as text.
+-- How a grammar's start and counts read as text.
 use Rattle.std.specs.Prelude.{ℕ, List, ◌++◌, codes, decimal}
 use Rattle.grammar.specs.Meaning.{Meaning}
-use Rattle.grammar.specs.declared.Mark.{Mark}
-use Rattle.grammar.specs.declared.Mark.TheVariants.{Loose, Tight}
-use Rattle.grammar.specs.declared.Part.{Part}
-use Rattle.grammar.specs.declared.Part.TheVariants.{Symbol, Range, Except}
-use Rattle.packed.specs.Check.{fault_number, fault_rule}
-use Rattle.packed.specs.declared.fault.TableFault.{TableFault}
-
-abbrev pub part_text : Part → List ℕ
-part_text (Symbol s) = codes "symbol " ++ decimal s
-part_text (Range low high) = codes "byte " ++ (decimal low ++ (codes " to " ++ decimal high))
-part_text (Except x y z) = codes "byte except " ++ (decimal x ++ (codes ", " ++ (decimal y ++ (codes ", " ++ decimal z))))
-
-abbrev pub mark_text : Mark → List ℕ
-mark_text Loose = codes "loose"
-mark_text Tight = codes "tight"
 
 abbrev pub head_text : Meaning → List ℕ
 head_text m = codes "symbols=" ++ (decimal m.symbols ++ (codes " start=" ++ (decimal m.start ++ (codes " rules=" ++ decimal m.rules))))
-
-abbrev pub fault_text : TableFault → List ℕ
-fault_text fault = codes "refused " ++ (decimal (fault_number fault) ++ (codes " rule=" ++ decimal (fault_rule fault)))

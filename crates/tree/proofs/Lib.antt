@@ -1,4 +1,4 @@
-mod Walks
+pub mod Walks
 mod Sound
 pub mod Complete
 pub mod Refusals

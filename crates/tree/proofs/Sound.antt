@@ -1,20 +1,17 @@
 -- What a check accepts is the walk of a parse tree: from the rest of an accepted run come the trees that the rest tells.
-use Rattle.std.proofs.Common.{◌≡◌, ℕ, suc, ◌+◌, ◌*◌, ◌<◌, ◌≤◌, Bool, true, false, eqb, ltb, List, [], ◌∷◌, ◌++◌, length, Some, None, Ok, Err, Option, sym, refl, ap, ◌∙◌, subst, append_assoc, append-nil, arith}
-use Rattle.std.proofs.lemmas.Bool.{eqb-true, ltb-true}
+use Rattle.std.proofs.Common.{◌≡◌, ℕ, ◌+◌, ◌*◌, ◌≤◌, true, List, [], ◌∷◌, ◌++◌, length, Some, Ok, sym, refl, ap, ◌∙◌, append_assoc, append-nil, arith}
+use Rattle.std.proofs.lemmas.Bool.Decides.{nat_tests}
 use Rattle.guide.specs.declared.Event.{Event}
 use Rattle.guide.specs.declared.Event.TheVariants.{Enter, Byte, Leave}
-use Rattle.guide.specs.declared.Finish.{Finish}
-use Rattle.guide.specs.declared.Finish.TheVariants.{End, Fault}
-use Rattle.guide.specs.Told.{Told, finally, ◌and◌, tells}
+use Rattle.guide.specs.Told.{Finish, End, Told, finally, ◌and◌, tells}
 use Rattle.grammar.specs.declared.Part.{Part}
-use Rattle.grammar.specs.declared.Part.TheVariants.{Symbol, Range, Except}
+use Rattle.grammar.specs.declared.Part.TheVariants.{Symbol}
 use Rattle.grammar.specs.Meaning.{Rule, Meaning, allows}
-use Rattle.tree.specs.declared.verdict.Reason.{Reason}
-use Rattle.tree.specs.declared.verdict.Reason.TheVariants.{GuideFault, TooManyEvents, NotAwaited, NoSuchRule, OtherSymbol, TooDeep, ByteNotAllowed, ByteNotNext, TextLeft}
+use Rattle.tree.specs.declared.verdict.Accepted.{Accepted}
 use Rattle.tree.specs.Tree.{Tree, leaf, node, Children, no_more, ◌then◌, walk, walk_all, spells, spell_all, rules, rules_all, depth_all}
 use Rattle.tree.specs.Parse.{MatchAll}
-use Rattle.tree.specs.Verdict.{Verdict, accepted, refused}
-use Rattle.tree.specs.Check.{State, Progress, going, ask, begin, entered, read, enter_rule, on_enter, next_byte, on_byte, on_leave, of_kind, at_finish, run, verdict}
+use Rattle.tree.specs.Verdict.{accepted}
+use Rattle.tree.specs.Check.{State, Progress, going, over, begin, entered, read, left, on_event, at_finish, run, verdict}
 use Rattle.tree.specs.Theorems.{TellsTree}
 use Rattle.tree.proofs.Walks.{walk_length}
 
@@ -46,234 +43,205 @@ later_length : (g : Meaning) (pss : List (List Part)) (uss : List Children) → 
 later_length g [] [] h = refl
 later_length g [] (us ∷ uss) h = absurd h
 later_length g (ps ∷ pss) [] h = absurd h
-later_length g (ps ∷ pss) (us ∷ uss) h = ap suc (later_length g pss uss h.1)
+later_length g (ps ∷ pss) (us ∷ uss) h = omega (arith, later_length g pss uss h.1)
 
 -- the events of the trees ts of the newest open node, and of the older ones
 abbrev events : Children → List Children → List Event
 events ts uss = walk_all ts ++ walk_later uss
 
+-- within the limits, the trees ts and uss bring the counts where the run stands to those of the whole, `all`
+record Adds (D : ℕ) (all : Accepted) (s : State) (ts : Children) (uss : List Children) : Type 0 where
+  shallow : length uss + depth_all ts ≤ D
+  short : s.events + length (events ts uss) ≤ 16000
+  rules_are : all.rules ≡ s.rules + (rules_all ts + rules_later uss)
+  bytes_are : all.bytes ≡ s.bytes + length s.text
+  steps_are : all.steps ≡ s.events + length (events ts uss) + 1
+
 -- the rest of an accepted run tells the trees ts and uss
-record Rest (g : Meaning) (D : ℕ) (v : Verdict) (s : State) (told : Told) (ts : Children) (uss : List Children) : Type 0 where
+record Rest (g : Meaning) (D : ℕ) (all : Accepted) (s : State) (told : Told) (ts : Children) (uss : List Children) : Type 0 where
   matches : MatchAll g s.parts ts
   later : MatchLater g s.older uss
   whole : tells (events ts uss) End ≡ told
   spelled : spell_all ts ++ spell_later uss ≡ s.text
-  shallow : length uss + depth_all ts ≤ D
   shallow_later : DeepLater D uss
-  short : s.events + length (events ts uss) ≤ 16000
-  verdict_is : v ≡ accepted (s.rules + (rules_all ts + rules_later uss)) (s.bytes + length s.text) (s.events + length (events ts uss) + 1)
+  adds : Adds D all s ts uss
 
-abbrev SomeRest : Meaning → ℕ → Verdict → State → Told → Type 0
-SomeRest g D v s told = (ts : Children) × (uss : List Children) × Rest g D v s told ts uss
+abbrev SomeRest : Meaning → ℕ → Accepted → State → Told → Type 0
+SomeRest g D all s told = (ts : Children) × (uss : List Children) × Rest g D all s told ts uss
 
-abbrev pub state : List Part → List (List Part) → List ℕ → ℕ → ℕ → ℕ → State
-state ps pss text k m n = record { parts = ps; older = pss; text = text; rules = k; bytes = m; events = n }
+-- What an accepted event found where the check stood, and where the check stands then.
+record EnterFound (g : Meaning) (s s' : State) (r : ℕ) : Type 0 where
+  rule : Rule
+  parts : List Part
+  known : g.rule r ≡ Some rule
+  awaited : s.parts ≡ Symbol rule.left ∷ parts
+  next : s' ≡ entered s parts rule.parts
 
-pub accepted_path : {r r' b b' n n' : ℕ} → r ≡ r' → b ≡ b' → n ≡ n' → accepted r b n ≡ accepted r' b' n'
-accepted_path {r} {r'} {b} {b'} {n} {n'} p q s =
-    ap (λ (x : ℕ). accepted x b n) p ∙ ap (λ (x : ℕ). accepted r' x n) q ∙ ap (λ (x : ℕ). accepted r' b' x) s
+record ByteFound (s s' : State) (b : ℕ) : Type 0 where
+  part : Part
+  parts : List Part
+  text : List ℕ
+  awaited : s.parts ≡ part ∷ parts
+  here : s.text ≡ b ∷ text
+  allowed : allows part b ≡ true
+  next : s' ≡ read s parts text
 
-module _ (g : Meaning) (D : ℕ) (v : Verdict) where
-  -- One event put before the rest of an accepted run.
-  before_leave : (ps : List Part) (pss : List (List Part)) (text : List ℕ) (k m n : ℕ) (told : Told) → length (ps ∷ pss) ≤ D
-      → SomeRest g D v (state ps pss text k m (n + 1)) told → SomeRest g D v (state [] (ps ∷ pss) text k m n) (Leave and told)
-  before_leave ps pss text k m n told hD (ts, uss, w) =
-      let e : length pss ≡ length uss = later_length g pss uss w.later in (
-        no_more,
-        ts ∷ uss,
-        record {
-          matches = tt;
-          later = (w.matches, w.later);
-          whole = ap (λ x. Leave and x) w.whole;
-          spelled = w.spelled;
-          shallow = omega arith;
-          shallow_later = (w.shallow, w.shallow_later);
-          short = omega (arith, w.short);
-          verdict_is = w.verdict_is ∙ accepted_path (omega arith) refl (omega arith);
-        },
-      )
+record LeaveFound (s s' : State) : Type 0 where
+  parts : List Part
+  older : List (List Part)
+  complete : s.parts ≡ []
+  opened : s.older ≡ parts ∷ older
+  next : s' ≡ left s parts older
 
-  before_byte : (b : ℕ) (p : Part) (ps : List Part) (pss : List (List Part)) (text : List ℕ) (k m n : ℕ) (told : Told) → allows p b ≡ true
-      → SomeRest g D v (state ps pss text k (m + 1) (n + 1)) told → SomeRest g D v (state (p ∷ ps) pss (b ∷ text) k m n) (Byte b and told)
-  before_byte b p ps pss text k m n told ok (ts, uss, w) = (
-    leaf b then ts,
-    uss,
-    record {
-      matches = (ok, w.matches);
-      later = w.later;
-      whole = ap (λ x. Byte b and x) w.whole;
-      spelled = ap (λ l. b ∷ l) w.spelled;
-      shallow = omega (arith, w.shallow);
-      shallow_later = w.shallow_later;
-      short = omega (arith, w.short);
-      verdict_is = w.verdict_is ∙ accepted_path (omega arith) (omega arith) (omega arith);
-    },
-  )
+module _ (g : Meaning) (D : ℕ) (s s' : State) where
+  enter_found : (r : ℕ) → on_event g D s (Enter r) ≡ going s' → EnterFound g s s' r
+  enter_found r h = grind (arith, nat_tests)
 
-  entered_events : (r : ℕ) (ts us : Children) (uss : List Children) → Enter r ∷ events ts (us ∷ uss) ≡ events (node r ts then us) uss
-  entered_events r ts us uss = simp append_assoc
+  byte_found : (b : ℕ) → on_event g D s (Byte b) ≡ going s' → ByteFound s s' b
+  byte_found b h = grind (arith, nat_tests)
 
-  before_enter : (r : ℕ) (R : Rule) (ps : List Part) (pss : List (List Part)) (text : List ℕ) (k m n : ℕ) (told : Told) → g.rule r ≡ Some R
-      → SomeRest g D v (state R.parts (ps ∷ pss) text (k + 1) m (n + 1)) told
-      → SomeRest g D v (state (Symbol R.left ∷ ps) pss text k m n) (Enter r and told)
-  before_enter r R ps pss text k m n told e (ts, [], w) = absurd w.later
-  before_enter r R ps pss text k m n told e (ts, us ∷ uss, w) =
-      let same = entered_events r ts us uss in
-      let l = ap length same in (
-        node r ts then us,
-        uss,
-        record {
-          matches = ((R, e, refl, w.matches), w.later.0);
-          later = w.later.1;
-          whole = ap (λ es. tells es End) (sym same) ∙ ap (λ x. Enter r and x) w.whole;
-          spelled = simp append_assoc w.spelled;
-          shallow = omega (arith, w.shallow, w.shallow_later.0);
-          shallow_later = w.shallow_later.1;
-          short = omega (arith, w.short);
-          verdict_is = w.verdict_is ∙ accepted_path (omega arith) refl (omega arith);
-        },
-      )
+  leave_found : on_event g D s Leave ≡ going s' → LeaveFound s s'
+  leave_found h = grind (arith, nat_tests)
 
-abbrev IsAccepted : Verdict → Type 0
-IsAccepted (Ok a) = Unit {0}
-IsAccepted (Err f) = ⊥
+  -- an accepted event leaves the check within the limits
+  within : (e : Event) → length s.older ≤ D → on_event g D s e ≡ going s' → (length s'.older ≤ D) × (s'.events ≤ 16000)
+  within e hD h = grind (arith, nat_tests)
 
-module _ (g : Meaning) (D : ℕ) (v : Verdict) (acc : IsAccepted v) where
-  never_refused {ℓ} : {A : Type ℓ} (why : Reason) (e a : ℕ) → refused why e a ≡ v → A
-  never_refused why e a h = absurd (subst IsAccepted (sym h) acc)
+-- no event ends the check with an acceptance
+never_over : (g : Meaning) (D : ℕ) (s : State) (e : Event) (all : Accepted) → on_event g D s e ≡ over (Ok all) → ⊥
+never_over g D s e all h = grind (arith, nat_tests)
 
-  -- in an accepted run the answer to each question is yes
-  ask_on : (q : Bool) (why : Reason) (s : State) (x : Progress) (told : Told) → run g D (ask q why s x) told ≡ v → (q ≡ true) × (run g D x told ≡ v)
-  ask_on true why s x told h = (refl, h)
-  ask_on false why s x told h = never_refused why s.events s.bytes h
+-- the end is accepted where nothing is awaited and no text is left
+record Ended (s : State) (f : Finish) (all : Accepted) : Type 0 where
+  finish : f ≡ End
+  complete : s.parts ≡ []
+  closed : s.older ≡ []
+  read_all : s.text ≡ []
+  rules_are : all.rules ≡ s.rules
+  bytes_are : all.bytes ≡ s.bytes
+  steps_are : all.steps ≡ s.events + 1
 
+ended : (s : State) (f : Finish) (all : Accepted) → at_finish s f ≡ Ok all → Ended s f all
+ended s f all h = grind arith
+
+module _ (g : Meaning) (D : ℕ) (all : Accepted) where
   abbrev SoundAt : Told → Type 0
-  SoundAt told = (s : State) → length s.older ≤ D → s.events ≤ 16000 → run g D (going s) told ≡ v → SomeRest g D v s told
+  SoundAt told = (s : State) → length s.older ≤ D → s.events ≤ 16000 → run g D (going s) told ≡ Ok all → SomeRest g D all s told
 
-  finish_is_sound : (f : Finish) (ps : List Part) (pss : List (List Part)) (text : List ℕ) (k m n : ℕ) → n ≤ 16000
-      → at_finish (state ps pss text k m n) f ≡ v → SomeRest g D v (state ps pss text k m n) (finally f)
-  finish_is_sound End [] [] [] k m n hE h = (
-    no_more,
-    [],
-    record {
-      matches = tt;
-      later = tt;
-      whole = refl;
-      spelled = refl;
-      shallow = omega arith;
-      shallow_later = tt;
-      short = omega arith;
-      verdict_is = sym h ∙ accepted_path (omega arith) (omega arith) (omega arith);
-    },
-  )
-  finish_is_sound End [] [] (c ∷ text) k m n hE h = never_refused TextLeft n m h
-  finish_is_sound End [] (ps ∷ pss) text k m n hE h = never_refused NotAwaited n m h
-  finish_is_sound End (p ∷ ps) pss text k m n hE h = never_refused NotAwaited n m h
-  finish_is_sound (Fault d place) ps pss text k m n hE h = never_refused (GuideFault d place) n m h
+  finish_is_sound : (f : Finish) (s : State) → s.events ≤ 16000 → at_finish s f ≡ Ok all → SomeRest g D all s (finally f)
+  finish_is_sound f s hE h =
+      let l = ended s f all h in
+      let o = ap length l.read_all in (
+        no_more,
+        [],
+        record {
+          matches = rw l.complete tt;
+          later = rw l.closed tt;
+          whole = rw l.finish refl;
+          spelled = sym l.read_all;
+          shallow_later = tt;
+          adds = omega arith;
+        },
+      )
 
-  module _ (told : Told) (sound-later : SoundAt told) where
-    at_leave : (ps : List Part) (pss : List (List Part)) (text : List ℕ) (k m n : ℕ) → length pss ≤ D → n < 16000
-        → run g D (on_leave (state ps pss text k m n) ps pss) told ≡ v → SomeRest g D v (state ps pss text k m n) (Leave and told)
-    at_leave [] [] text k m n hD hE h = never_refused NotAwaited n m h
-    at_leave [] (ps ∷ pss) text k m n hD hE h =
-        before_leave g D v ps pss text k m n told hD (sound-later (state ps pss text k m (n + 1)) (omega arith) (omega arith) h)
-    at_leave (p ∷ ps) pss text k m n hD hE h = never_refused NotAwaited n m h
+  -- One event put before the rest of an accepted run.
+  module _ (told : Told) (s s' : State) (rest : SomeRest g D all s' told) where
+    before_leave : LeaveFound s s' → length s.older ≤ D → SomeRest g D all s (Leave and told)
+    before_leave l hD =
+        let (ts, uss, w) = rw l.next at rest in
+        let same : length l.older ≡ length uss = later_length g l.older uss w.later in
+        let o = ap length l.opened in (
+          no_more,
+          ts ∷ uss,
+          record {
+            matches = rw l.complete tt;
+            later = rw l.opened (w.matches, w.later);
+            whole = ap (λ x. Leave and x) w.whole;
+            spelled = w.spelled;
+            shallow_later = (w.adds.shallow, w.shallow_later);
+            adds = omega arith;
+          },
+        )
 
-    at_leaf : (b : ℕ) (p : Part) (ps : List Part) (pss : List (List Part)) (text : List ℕ) (k m n : ℕ) → length pss ≤ D → n < 16000
-        → allows p b ≡ true → run g D (next_byte (state (p ∷ ps) pss text k m n) b ps text) told ≡ v
-        → SomeRest g D v (state (p ∷ ps) pss text k m n) (Byte b and told)
-    at_leaf b p ps pss [] k m n hD hE ok h = never_refused ByteNotNext n m h
-    at_leaf b p ps pss (c ∷ text) k m n hD hE ok h =
-        let s = state (p ∷ ps) pss (c ∷ text) k m n in
-        let (same, h') = ask_on (eqb b c) ByteNotNext s (going (read s ps text)) told h in
-        subst (λ (x : ℕ). SomeRest g D v (state (p ∷ ps) pss (x ∷ text) k m n) (Byte b and told)) (eqb-true b c same)
-        (before_byte g D v b p ps pss text k m n told ok (sound-later (read s ps text) hD (omega arith) h'))
+    before_byte : (b : ℕ) → ByteFound s s' b → SomeRest g D all s (Byte b and told)
+    before_byte b l =
+        let (ts, uss, w) = rw l.next at rest in
+        let o = ap length l.here in (
+          leaf b then ts,
+          uss,
+          record {
+            matches = rw l.awaited (l.allowed, w.matches);
+            later = w.later;
+            whole = ap (λ x. Byte b and x) w.whole;
+            spelled = cc (w.spelled, l.here);
+            shallow_later = w.shallow_later;
+            adds = omega arith;
+          },
+        )
 
-    at_byte : (b : ℕ) (ps : List Part) (pss : List (List Part)) (text : List ℕ) (k m n : ℕ) → length pss ≤ D → n < 16000
-        → run g D (on_byte (state ps pss text k m n) b ps) told ≡ v → SomeRest g D v (state ps pss text k m n) (Byte b and told)
-    at_byte b [] pss text k m n hD hE h = never_refused NotAwaited n m h
-    at_byte b (Symbol a ∷ ps) pss text k m n hD hE h = never_refused NotAwaited n m h
-    at_byte b (Range low high ∷ ps) pss text k m n hD hE h =
-        let s = state (Range low high ∷ ps) pss text k m n in
-        let (ok, h') = ask_on (allows (Range low high) b) ByteNotAllowed s (next_byte s b ps text) told h in
-        at_leaf b (Range low high) ps pss text k m n hD hE ok h'
-    at_byte b (Except x y z ∷ ps) pss text k m n hD hE h =
-        let s = state (Except x y z ∷ ps) pss text k m n in
-        let (ok, h') = ask_on (allows (Except x y z) b) ByteNotAllowed s (next_byte s b ps text) told h in
-        at_leaf b (Except x y z) ps pss text k m n hD hE ok h'
+    entered_events : (r : ℕ) (ts us : Children) (uss : List Children) → Enter r ∷ events ts (us ∷ uss) ≡ events (node r ts then us) uss
+    entered_events r ts us uss = simp append_assoc
 
-    at_rule : (r a : ℕ) (o : Option Rule) (ps : List Part) (pss : List (List Part)) (text : List ℕ) (k m n : ℕ) → g.rule r ≡ o → n < 16000
-        → run g D (enter_rule D (state (Symbol a ∷ ps) pss text k m n) a ps o) told ≡ v
-        → SomeRest g D v (state (Symbol a ∷ ps) pss text k m n) (Enter r and told)
-    at_rule r a None ps pss text k m n e hE h = never_refused NoSuchRule n m h
-    at_rule r a (Some R) ps pss text k m n e hE h =
-        let s = state (Symbol a ∷ ps) pss text k m n in
-        let s' = entered s ps R.parts in
-        let (same, h') = ask_on (eqb R.left a) OtherSymbol s (ask (ltb (length pss) D) TooDeep s (going s')) told h in
-        let (room, h'') = ask_on (ltb (length pss) D) TooDeep s (going s') told h' in
-        subst (λ (x : ℕ). SomeRest g D v (state (Symbol x ∷ ps) pss text k m n) (Enter r and told)) (eqb-true R.left a same)
-        (before_enter g D v r R ps pss text k m n told e (sound-later s' (ltb-true (length pss) D room) (omega arith) h''))
+    before_enter : (r : ℕ) (l : EnterFound g s s' r) (ts : Children) (uss : List Children)
+        → Rest g D all (entered s l.parts l.rule.parts) told ts uss → SomeRest g D all s (Enter r and told)
+    before_enter r l ts [] w = absurd w.later
+    before_enter r l ts (us ∷ uss) w =
+        let same = entered_events r ts us uss in
+        let o = ap length same in (
+          node r ts then us,
+          uss,
+          record {
+            matches = rw l.awaited ((l.rule, l.known, refl, w.matches), w.later.0);
+            later = w.later.1;
+            whole = ap (λ es. tells es End) (sym same) ∙ ap (λ x. Enter r and x) w.whole;
+            spelled = simp append_assoc w.spelled;
+            shallow_later = w.shallow_later.1;
+            adds = omega arith;
+          },
+        )
 
-    at_enter : (r : ℕ) (ps : List Part) (pss : List (List Part)) (text : List ℕ) (k m n : ℕ) → n < 16000
-        → run g D (on_enter g D (state ps pss text k m n) r ps) told ≡ v → SomeRest g D v (state ps pss text k m n) (Enter r and told)
-    at_enter r [] pss text k m n hE h = never_refused NotAwaited n m h
-    at_enter r (Symbol a ∷ ps) pss text k m n hE h = at_rule r a (g.rule r) ps pss text k m n refl hE h
-    at_enter r (Range low high ∷ ps) pss text k m n hE h = never_refused NotAwaited n m h
-    at_enter r (Except x y z ∷ ps) pss text k m n hE h = never_refused NotAwaited n m h
+    before_event : (e : Event) → on_event g D s e ≡ going s' → length s.older ≤ D → SomeRest g D all s (e and told)
+    before_event (Enter r) st hD =
+        let l = enter_found g D s s' r st in let (ts, uss, w) = rw l.next at rest in before_enter r l ts uss w
+    before_event (Byte b) st hD = before_byte b (byte_found g D s s' b st)
+    before_event Leave st hD = before_leave (leave_found g D s s' st) hD
 
-    at_event : (e : Event) (s : State) → length s.older ≤ D → s.events < 16000
-        → run g D (of_kind g D s e) told ≡ v → SomeRest g D v s (e and told)
-    at_event (Enter r) s hD hE h = at_enter r s.parts s.older s.text s.rules s.bytes s.events hE h
-    at_event (Byte b) s hD hE h = at_byte b s.parts s.older s.text s.rules s.bytes s.events hD hE h
-    at_event Leave s hD hE h = at_leave s.parts s.older s.text s.rules s.bytes s.events hD hE h
+  event_is_sound : (told : Told) → SoundAt told → (e : Event) (s : State) (x : Progress) → on_event g D s e ≡ x → length s.older ≤ D
+      → run g D x told ≡ Ok all → SomeRest g D all s (e and told)
+  event_is_sound told later e s (going s') st hD h =
+      let (d, n) = within g D s s' e hD st in before_event told s s' (later s' d n h) e st hD
+  event_is_sound told later e s (over v) st hD h = absurd (never_over g D s e all (st ∙ ap over h))
 
   sound : (told : Told) → SoundAt told
-  sound (finally f) s hD hE h = finish_is_sound f s.parts s.older s.text s.rules s.bytes s.events hE h
-  sound (e and told) s hD hE h =
-      let (few, h') = ask_on (ltb s.events 16000) TooManyEvents s (of_kind g D s e) told h in
-      at_event told (sound told) e s hD (ltb-true s.events 16000 few) h'
-
--- the counts of an acceptance
-abbrev rules_of : Verdict → ℕ
-rules_of (Ok a) = a.rules
-rules_of (Err f) = 0
-
-abbrev bytes_of : Verdict → ℕ
-bytes_of (Ok a) = a.bytes
-bytes_of (Err f) = 0
-
-abbrev steps_of : Verdict → ℕ
-steps_of (Ok a) = a.steps
-steps_of (Err f) = 0
+  sound (finally f) s hD hE h = finish_is_sound f s hE h
+  sound (e and told) s hD hE h = event_is_sound told (sound told) e s (on_event g D s e) refl hD h
 
 -- the guide tells a tree, and the counts are the tree's
 abbrev pub TreeTold : Meaning → ℕ → List ℕ → Told → ℕ → ℕ → ℕ → Type 0
 TreeTold g D text told r b n =
     (t : Tree) × TellsTree g D text told t × (r ≡ rules t) × (b ≡ length text) × (n ≡ 2 * rules t + length text + 1)
 
-tree_told : (g : Meaning) (D : ℕ) (text : List ℕ) (told : Told) (r b n : ℕ) (ts : Children) (uss : List Children)
-    → Rest g D (accepted r b n) (begin g text) told ts uss → TreeTold g D text told r b n
-tree_told g D text told r b n no_more uss w = absurd w.matches
-tree_told g D text told r b n (t then (u then us)) uss w = absurd w.matches.1
-tree_told g D text told r b n (t then no_more) (us ∷ uss) w = absurd w.later
-tree_told g D text told r b n (t then no_more) [] w =
+tree_told : (g : Meaning) (D : ℕ) (text : List ℕ) (told : Told) (all : Accepted) (ts : Children) (uss : List Children)
+    → Rest g D all (begin g text) told ts uss → TreeTold g D text told all.rules all.bytes all.steps
+tree_told g D text told all no_more uss w = absurd w.matches
+tree_told g D text told all (t then (u then us)) uss w = absurd w.matches.1
+tree_told g D text told all (t then no_more) (us ∷ uss) w = absurd w.later
+tree_told g D text told all (t then no_more) [] w =
     let same : events (t then no_more) [] ≡ walk t = simp append-nil in
     let e : tells (walk t) End ≡ told = ap (λ es. tells es End) (sym same) ∙ w.whole in
     let f : spells t ≡ text = simp append-nil at w.spelled in
     let l = ap length same in
-    let lf = ap length f in
-    let r_is = ap rules_of w.verdict_is in
-    let b_is = ap bytes_of w.verdict_is in
-    let n_is = ap steps_of w.verdict_is in (
+    let lf = ap length f in (
       t,
-      record { parse = w.matches.0; whole = e; spelled = f; shallow = omega (arith, w.shallow); short = omega (arith, w.short) },
+      record { parse = w.matches.0; whole = e; spelled = f; shallow = omega arith; short = omega arith },
       omega arith,
       omega arith,
-      omega (arith, walk_length t),
+      omega (arith, walk_length),
     )
 
 pub accepted_told : (g : Meaning) (D : ℕ) (text : List ℕ) (told : Told) (r b n : ℕ)
     → verdict g D text told ≡ accepted r b n → TreeTold g D text told r b n
 accepted_told g D text told r b n h =
-    let (ts, uss, w) = sound g D (accepted r b n) tt told (begin g text) (omega arith) (omega arith) h in
-    tree_told g D text told r b n ts uss w
+    let all : Accepted = record { rules = r; bytes = b; steps = n } in
+    let (ts, uss, w) = sound g D all told (begin g text) (omega arith) (omega arith) h in
+    tree_told g D text told all ts uss w

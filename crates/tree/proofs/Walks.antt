@@ -1,18 +1,24 @@
 -- A walk's length, and the tree that it is the walk of.
-use Rattle.std.proofs.Common.{◌≡◌, ℕ, ◌+◌, ◌*◌, List, [], ◌∷◌, ◌++◌, length, sym, refl, ap, ◌∙◌, append_assoc, append-nil, arith, length-append}
+use Rattle.std.proofs.Common.{◌≡◌, ℕ, ◌+◌, ◌*◌, List, [], ◌∷◌, ◌++◌, length, refl, append_assoc, append-nil, arith, length-append}
 use Rattle.guide.specs.declared.Event.{Event}
 use Rattle.guide.specs.declared.Event.TheVariants.{Enter, Byte, Leave}
+use Rattle.guide.specs.Told.{Told, ahead}
 use Rattle.tree.specs.Tree.{Tree, leaf, node, Children, no_more, ◌then◌, walk, walk_all, spells, spell_all, rules, rules_all}
 use Rattle.tree.specs.Theorems.{WalkDeterminesTree, TwoEventsARuleOneAByte}
+
+-- the events of two lists in a row
+pub ahead_append : (es fs : List Event) (told : Told) → ahead (es ++ fs) told ≡ ahead es (ahead fs told)
+ahead_append [] fs told = refl
+ahead_append (e ∷ es) fs told = cc (ahead_append es fs told)
 
 mutual
   pub walk_length : (t : Tree) → length (walk t) ≡ 2 * rules t + length (spells t)
   walk_length (leaf b) = refl
-  walk_length (node r ts) = let h = walk_all_length ts in simp length-append (omega arith)
+  walk_length (node r ts) = simp length-append (omega (arith, walk_all_length ts))
 
   walk_all_length : (ts : Children) → length (walk_all ts) ≡ 2 * rules_all ts + length (spell_all ts)
   walk_all_length no_more = refl
-  walk_all_length (t then ts) = let h = walk_length t in let k = walk_all_length ts in simp length-append (omega arith)
+  walk_all_length (t then ts) = simp length-append (omega (arith, walk_length t, walk_all_length ts))
 
 pub two_events_a_rule_one_a_byte : TwoEventsARuleOneAByte
 two_events_a_rule_one_a_byte = walk_length
@@ -39,23 +45,20 @@ put_all (t then ts) tss = put t (put_all ts tss)
 
 put_all_none : (ts : Children) (tss : List Children) → put_all ts (no_more ∷ tss) ≡ ts ∷ tss
 put_all_none no_more tss = refl
-put_all_none (t then ts) tss = ap (put t) (put_all_none ts tss)
+put_all_none (t then ts) tss = cc (put_all_none ts tss)
 
 mutual
   trees_walk : (t : Tree) (es : List Event) → trees (walk t ++ es) ≡ put t (trees es)
   trees_walk (leaf b) es = refl
-  trees_walk (node r ts) es =
-      ap (λ l. close r (trees l)) (append_assoc (walk_all ts) (Leave ∷ []) es)
-      ∙ ap (close r) (trees_walk_all ts (Leave ∷ es) ∙ put_all_none ts (trees es))
+  trees_walk (node r ts) es = simp (append_assoc, trees_walk_all ts, put_all_none)
 
   trees_walk_all : (ts : Children) (es : List Event) → trees (walk_all ts ++ es) ≡ put_all ts (trees es)
   trees_walk_all no_more es = refl
-  trees_walk_all (t then ts) es =
-      ap trees (append_assoc (walk t) (walk_all ts) es) ∙ trees_walk t (walk_all ts ++ es) ∙ ap (put t) (trees_walk_all ts es)
+  trees_walk_all (t then ts) es = simp (append_assoc, trees_walk t, trees_walk_all ts)
 
 trees_of : (t : Tree) → trees (walk t) ≡ (t then no_more) ∷ []
-trees_of t = ap trees (sym (append-nil (walk t))) ∙ trees_walk t []
+trees_of t = simp append-nil at (trees_walk t [])
 
 pub walk_determines_tree : WalkDeterminesTree
 walk_determines_tree t u e =
-    let h : (t then no_more) ∷ [] ≡ (u then no_more) ∷ [] = sym (trees_of t) ∙ ap trees e ∙ trees_of u in cc
+    cc (trees_of t, trees_of u)

@@ -1,12 +1,9 @@
 -- The check of a guide against a grammar and a text: which question is the first to be answered no.
-use Rattle.std.specs.Prelude.{ℕ, ◌+◌, min, Bool, true, false, List, [], ◌∷◌, length, Some, None, Option, ◌==◌, nat_lt}
-use Rattle.guide.specs.declared.Answer.{Answer}
-use Rattle.guide.specs.declared.Answer.TheVariants.{Next, Done}
+use Rattle.std.specs.Prelude.{ℕ, ◌+◌, min, Bool, true, false, List, [], ◌∷◌, length, Some, None, Ok, Err, Option, Result, ◌==◌, nat_lt}
 use Rattle.guide.specs.declared.Event.{Event}
 use Rattle.guide.specs.declared.Event.TheVariants.{Enter, Byte, Leave}
-use Rattle.guide.specs.declared.Finish.{Finish}
-use Rattle.guide.specs.declared.Finish.TheVariants.{End, Fault}
-use Rattle.guide.specs.Told.{Told, finally, ◌and◌}
+use Rattle.guide.specs.declared.Fault.{Fault}
+use Rattle.guide.specs.Told.{Finish, End, Broken, Told, finally, ◌and◌}
 use Rattle.grammar.specs.declared.Part.{Part}
 use Rattle.grammar.specs.declared.Part.TheVariants.{Symbol, Range, Except}
 use Rattle.grammar.specs.Meaning.{Rule, Meaning, allows}
@@ -36,6 +33,7 @@ pub record State : Type 0 where
   pub events : ℕ
 
 -- the check goes on, or it has its verdict
+-- (no Result: what ends a check may be an acceptance, which is no error)
 pub data Progress : Type 0 where
   going : State → Progress
   over : Verdict → Progress
@@ -115,12 +113,13 @@ at_end s (p ∷ ps) older text = refused NotAwaited s.events s.bytes
 
 abbrev pub at_finish : State → Finish → Verdict
 at_finish s End = at_end s s.parts s.older s.text
-at_finish s (Fault defect place) = refused (GuideFault defect place) s.events s.bytes
+at_finish s (Broken f) = refused (GuideFault f) s.events s.bytes
 
 -- one answer of the guide
-abbrev pub step : Meaning → ℕ → State → Answer → Progress
-step g D s (Next e) = on_event g D s e
-step g D s (Done f) = over (at_finish s f)
+abbrev pub step : Meaning → ℕ → State → Result (Option Event) Fault → Progress
+step g D s (Ok (Some e)) = on_event g D s e
+step g D s (Ok None) = over (at_finish s End)
+step g D s (Err f) = over (at_finish s (Broken f))
 
 -- the answers one by one, to the finish or to the first no
 abbrev pub run : Meaning → ℕ → Progress → Told → Verdict

@@ -1,11 +1,10 @@
 -- What is proved of walks and of the check, in the words of parse trees.
-use Rattle.std.specs.Prelude.{◌≡◌, ℕ, ◌+◌, ◌*◌, ◌≤◌, ◌↔◌, List, [], ◌∷◌, ◌++◌, length}
-use Rattle.guide.specs.declared.Answer.TheVariants.{Done}
-use Rattle.guide.specs.declared.Defect.{Defect}
+use Rattle.std.specs.Prelude.{◌≡◌, ℕ, ◌+◌, ◌*◌, ◌≤◌, ◌↔◌, List, [], ◌∷◌, ◌++◌, length, Err}
+use Rattle.std.specs.List.{flat_map}
 use Rattle.guide.specs.declared.Event.{Event}
 use Rattle.guide.specs.declared.Event.TheVariants.{Enter, Byte, Leave}
-use Rattle.guide.specs.declared.Finish.TheVariants.{End, Fault}
-use Rattle.guide.specs.Told.{Told, ahead, tells, answer}
+use Rattle.guide.specs.declared.Fault.{Fault}
+use Rattle.guide.specs.Told.{End, Told, ahead, tells, answer}
 use Rattle.grammar.specs.Meaning.{Meaning}
 use Rattle.tree.specs.declared.verdict.Reason.{Reason}
 use Rattle.tree.specs.declared.verdict.Reason.TheVariants.{GuideFault}
@@ -53,16 +52,19 @@ EveryParseTreeIsAccepted =
     (g : Meaning) (D : ℕ) (t : Tree) → ParseTree g t → depth t ≤ D → length (walk t) ≤ most_events
     → verdict g D (spells t) (tells (walk t) End) ≡ accepted (rules t) (length (spells t)) (2 * rules t + length (spells t) + 1)
 
+-- the byte that an event tells
+abbrev pub byte_of : Event → List ℕ
+byte_of (Enter r) = []
+byte_of (Byte b) = b ∷ []
+byte_of Leave = []
+
 -- the bytes among the events
 abbrev pub bytes_in : List Event → List ℕ
-bytes_in [] = []
-bytes_in (Enter r ∷ es) = bytes_in es
-bytes_in (Byte b ∷ es) = b ∷ bytes_in es
-bytes_in (Leave ∷ es) = bytes_in es
+bytes_in = flat_map byte_of
 
 -- A refusal for the reason `why` with the counts `events` and `bytes`: so many events came before the refused answer, and the bytes among
 -- them, so many, are the first of the text. Every guide that begins with these events and has the same next answer is refused alike.
--- The reason is a fault exactly where that answer is the fault, with the guide's own defect and place.
+-- The reason is a fault exactly where that answer is this fault.
 pub record RefusedThere (g : Meaning) (D : ℕ) (text : List ℕ) (told : Told) (why : Reason) (events bytes : ℕ) : Type 0 where
   pub before : List Event
   pub rest : Told
@@ -72,7 +74,7 @@ pub record RefusedThere (g : Meaning) (D : ℕ) (text : List ℕ) (told : Told) 
   pub used : bytes_in before ++ unused ≡ text
   pub used_counted : length (bytes_in before) ≡ bytes
   pub alike : (rest' : Told) → answer rest' ≡ answer rest → verdict g D text (ahead before rest') ≡ refused why events bytes
-  pub faulty : (d : Defect) (p : ℕ) → (why ≡ GuideFault d p) ↔ (answer rest ≡ Done (Fault d p))
+  pub faulty : (f : Fault) → (why ≡ GuideFault f) ↔ (answer rest ≡ Err f)
 
 -- the verdict v, if it refuses, says where
 abbrev pub RefusedWhere : Meaning → ℕ → List ℕ → Told → Verdict → Type 0

@@ -4,6 +4,7 @@ use Rattle.guide.specs.declared.Event.{Event}
 use Rattle.guide.specs.declared.Event.TheVariants.{Enter, Byte, Leave}
 
 -- a leaf is a byte; a rule node has the number of its rule, and its children from left to right
+-- (a list type of their own: the logic has no type that holds itself inside a List)
 infixr 60 ◌then◌
 mutual
   pub data Tree : Type 0 where
@@ -35,6 +36,7 @@ abbrev mutual
   spell_all (t then ts) = spells t ++ spell_all ts
 
 -- how many rule nodes the tree has
+-- (a recursion of its own, as each measure of a tree is: as a fold that takes four functions it is no plainer)
 abbrev mutual
   pub rules : Tree → ℕ
   rules (leaf b) = 0

@@ -6,7 +6,7 @@ use Rattle.tree.specs.declared.verdict.Reason.TheVariants.{GuideFault, TooManyEv
 use Rattle.tree.specs.declared.verdict.Refusal.{Refusal}
 
 abbrev pub reason_number : Reason → ℕ
-reason_number (GuideFault defect place) = 5
+reason_number (GuideFault f) = 5
 reason_number TooManyEvents = 6
 reason_number NotAwaited = 7
 reason_number NoSuchRule = 8

@@ -6,11 +6,13 @@ ghost use Rattle.tree.specs.Theorems.{WalkDeterminesTree, TwoEventsARuleOneAByte
 pub mod verdict;
 
 // No two trees have the same walk.
+#[tactic(auto, using(crate::proofs::Walks::walk_determines_tree))]
 pub fn walk_determines_tree()
     ensures { WalkDeterminesTree }
 {}
 
 // A walk has two events for each rule node, and one for each byte.
+#[tactic(auto, using(crate::proofs::Walks::two_events_a_rule_one_a_byte))]
 pub fn two_events_a_rule_one_a_byte()
     ensures { TwoEventsARuleOneAByte }
 {}
@@ -26,11 +28,13 @@ pub fn one_tree_is_told()
 {}
 
 // Every parse tree within the limits is accepted when its own walk is told.
+#[tactic(auto, using(crate::proofs::Complete::every_parse_tree_is_accepted))]
 pub fn every_parse_tree_is_accepted()
     ensures { EveryParseTreeIsAccepted }
 {}
 
 // A refusal counts the events accepted and the text bytes that they told, and is decided by these and the next answer alone.
+#[tactic(auto, using(crate::proofs::Refusals::refusals_say_where))]
 pub fn refusals_say_where()
     ensures { RefusalsSayWhere }
 {}

@@ -2,12 +2,12 @@
 ghost use Rattle.std.specs.Prelude.{◌≡◌};
 ghost use Rattle.tree.specs.Verdict.{reason_number};
 
-use guide::Defect;
+use guide::Fault;
 
 // Why a check refuses: the question that was the first to be answered no.
-#[derive(Clone, Copy)]
+#[derive(Clone, Copy, PartialEq, Eq)]
 pub enum Reason {
-    GuideFault { defect: Defect, place: usize },
+    GuideFault(Fault),
     TooManyEvents,
     NotAwaited,
     NoSuchRule,
@@ -24,7 +24,7 @@ impl Reason {
         ensures { result ≡ reason_number self }
     {
         match self {
-            Reason::GuideFault { .. } => 5,
+            Reason::GuideFault(_) => 5,
             Reason::TooManyEvents => 6,
             Reason::NotAwaited => 7,
             Reason::NoSuchRule => 8,
@@ -38,7 +38,7 @@ impl Reason {
 }
 
 // A refusal: its reason, and how many events were accepted and text bytes used when it came.
-#[derive(Clone, Copy)]
+#[derive(Clone, Copy, PartialEq, Eq)]
 pub struct Refusal {
     pub reason: Reason,
     pub events: u32,
@@ -46,7 +46,7 @@ pub struct Refusal {
 }
 
 // An acceptance: the tree's rule nodes, the text's bytes, and the answers taken from the guide, the end too.
-#[derive(Clone, Copy)]
+#[derive(Clone, Copy, PartialEq, Eq)]
 pub struct Accepted {
     pub rules: u32,
     pub bytes: usize,

@@ -1,12 +1,14 @@
 // Random calls.
 use crate::damage::{bend, pad, random_byte, random_move, shake};
-use crate::moves::{deeper_record, depth_of, links_of, spell, write_link_table, write_listing};
+use crate::moves::{deeper_record, depth_of, records_of, spell, write_listing};
 use crate::random::Random;
-use crate::scenes::{Call, Form, Taste};
+use crate::scenes::{Call, Taste};
 use crate::trees::{Budget, grow, grow_exactly};
 use cues::requests::Request;
+use guide::written::Form;
 use second_checker::plain::Plain;
 use second_checker::sheet::Sheet;
+use second_checker::writing::write_records;
 use second_checker::{Move, narrow};
 use std::alloc::{AllocError, Global};
 
@@ -32,23 +34,18 @@ fn random_number(random: &mut Random, taste: Taste) -> u16 {
         Taste::Small | Taste::Deep => 20,
         Taste::Long | Taste::Counted => 120,
     };
-    let number = if random.chance(5) {
+    if random.chance(5) {
         random.one_of(&[0, 121, 122, 257, 376, 65_535])
     } else {
-        random.between(1, most)
-    };
-    narrow(number)
+        narrow(random.between(1, most))
+    }
 }
 
 // The first number behind another, all round from 1 to 120, that is held; the other where none is.
 fn held_number(sheet: &Sheet, number: u16) -> u16 {
-    for i in 0..120u16 {
-        let candidate = number.wrapping_add(i) % 120 + 1;
-        if sheet.text(candidate).is_some() {
-            return candidate;
-        }
-    }
-    number
+    let mut behind = (0..120u16).map(|i| number.wrapping_add(i) % 120 + 1);
+    let held = behind.find(|candidate| sheet.text(*candidate).is_some());
+    held.unwrap_or(number)
 }
 
 // A call that is no load. Its guide has an event, so that it shows whether the call has read it.
@@ -66,10 +63,7 @@ pub(crate) fn bare_call(heap: Global, request: Request, buffer: usize) -> Result
 // The length of a buffer, about that of the text to be fetched.
 pub(crate) fn random_buffer(random: &mut Random, request: Request, sheet: &Sheet) -> usize {
     let held = match request {
-        Request::Fetch(number) => match sheet.text(number) {
-            Some(text) => text.len(),
-            None => 0,
-        },
+        Request::Fetch(number) => sheet.text(number).map_or(0, |text| text.len()),
         _ => 0,
     };
     let shorter = held.saturating_sub(1);
@@ -117,8 +111,8 @@ fn fair_load(
     let (form, guide) = if random.chance(50) {
         (Form::Listing, write_listing(heap, moves)?)
     } else {
-        let links = links_of(heap, moves)?;
-        (Form::Links, write_link_table(heap, links.as_slice())?)
+        let records = records_of(heap, moves)?;
+        (Form::Links, write_records(heap, records.as_slice())?)
     };
     Ok(Call {
         request,
@@ -171,7 +165,7 @@ fn random_tree(
 fn make_text(heap: Global, random: &mut Random, moves: &[Move]) -> Result<Vec<u8>, AllocError> {
     let mut text = spell(heap, moves)?;
     match random.below(50) {
-        0 | 1 | 2 | 3 => {
+        0..=3 => {
             let new = random.byte();
             shake(random, &mut text, new)?
         }
@@ -200,7 +194,7 @@ fn random_frames(random: &mut Random, depth: usize) -> usize {
 fn make_listing(heap: Global, random: &mut Random, moves: &[Move]) -> Result<Vec<u8>, AllocError> {
     let mut listing = write_listing(heap, moves)?;
     match random.below(60) {
-        0 | 1 | 2 | 3 | 4 | 5 | 6 | 7 => {
+        0..=7 => {
             let new = random_byte(random);
             shake(random, &mut listing, new)?
         }
@@ -220,25 +214,25 @@ fn make_link_table(
     random: &mut Random,
     moves: &[Move],
 ) -> Result<Vec<u8>, AllocError> {
-    let mut links = links_of(heap, moves)?;
+    let mut records = records_of(heap, moves)?;
     if let Some(number) = deeper_record(moves)
         && random.chance(50)
     {
-        bend(random, &mut links, number);
+        bend(random, &mut records, number);
     }
     if random.chance(15) {
-        let number = random.below(links.len());
-        bend(random, &mut links, number);
+        let number = random.below(records.len());
+        bend(random, &mut records, number);
         if random.chance(40) {
-            bend(random, &mut links, number.saturating_sub(1));
+            bend(random, &mut records, number.saturating_sub(1));
         }
     }
     if random.chance(10)
-        && let Some(link) = links.first().copied()
+        && let Some(record) = records.first().copied()
     {
-        shake(random, &mut links, link)?;
+        shake(random, &mut records, record)?;
     }
-    let mut table = write_link_table(heap, links.as_slice())?;
+    let mut table = write_records(heap, records.as_slice())?;
     match random.below(40) {
         0 | 1 => {
             let new = random.byte();

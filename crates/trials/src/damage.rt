@@ -1,6 +1,6 @@
 // Damage to what was written.
-use crate::moves::Link;
 use crate::random::Random;
+use second_checker::writing::Record;
 use second_checker::{Move, narrow};
 use std::alloc::{AllocError, Global};
 
@@ -37,7 +37,7 @@ pub(crate) fn shake<T: Copy>(
 pub(crate) fn random_move(random: &mut Random) -> Move {
     match random.below(4) {
         0 => Move::Enter(narrow(random.below(12))),
-        1 => Move::Enter(narrow(random.one_of(&[7, 8, 10, 999, 1_000, 1_001, 1_023, 9_999]))),
+        1 => Move::Enter(random.one_of(&[7, 8, 10, 999, 1_000, 1_001, 1_023, 9_999])),
         2 => Move::Byte(random.byte()),
         _ => Move::Leave,
     }
@@ -58,18 +58,18 @@ pub(crate) fn random_byte(random: &mut Random) -> u8 {
 }
 
 // A field of the record with that number gets another value, often one that is off by one.
-pub(crate) fn bend(random: &mut Random, links: &mut Vec<Link>, number: usize) {
+pub(crate) fn bend(random: &mut Random, records: &mut Vec<Record>, number: usize) {
     let field = random.below(6);
-    let wild = narrow(random.one_of(&[0, 1, 255, 256, 9_999, 10_000, 65_535]));
-    let change = narrow(random.one_of(&[1, 1, 2, 65_535, 65_535]));
-    if let Some(link) = links.get_mut(number) {
+    let wild = random.one_of(&[0, 1, 255, 256, 9_999, 10_000, 65_535]);
+    let change = random.one_of(&[1, 1, 2, 65_535, 65_535]);
+    if let Some(record) = records.get_mut(number) {
         match field {
-            0 => link.kind = link.kind.wrapping_add(random.byte() % 4),
-            1 => link.zero = 1,
-            2 => link.value = wild,
-            3 => link.child = link.child.wrapping_add(change),
-            4 => link.sibling = link.sibling.wrapping_add(change),
-            _ => link.sibling = wild,
+            0 => record.kind = record.kind.wrapping_add(random.byte() % 4),
+            1 => record.zero = 1,
+            2 => record.value = wild,
+            3 => record.child = record.child.wrapping_add(change),
+            4 => record.sibling = record.sibling.wrapping_add(change),
+            _ => record.sibling = wild,
         }
     }
 }

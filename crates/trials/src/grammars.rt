@@ -1,7 +1,8 @@
-// Random grammars, and their packed tables.
+// Random grammars.
 use crate::random::Random;
 use second_checker::narrow;
 use second_checker::plain::{Piece, Plain};
+use second_checker::writing::MOST_PARTS;
 use std::alloc::{AllocError, Global};
 
 // What a random grammar is to be like: few short rules, rules of many parts, or as many symbols and rules as a table may have.
@@ -11,9 +12,6 @@ pub enum Build {
     Wide,
     Huge,
 }
-
-// The most parts of a packed rule.
-pub(crate) const MOST_PARTS: usize = 15;
 
 // The first rules, one for each symbol, are of bytes alone, so that every symbol has a tree. The others may name any symbol.
 pub(crate) fn random_grammar(
@@ -28,7 +26,7 @@ pub(crate) fn random_grammar(
     };
     let mut grammar = Plain {
         start: narrow(random.below(symbols)),
-        symbols,
+        symbols: narrow(symbols),
         rules: Vec::new(heap),
     };
     for left in 0..symbols {
@@ -56,7 +54,8 @@ fn add_rule(
     };
     let mut pieces = Vec::new(heap);
     for _ in 0..count {
-        pieces.push(random_piece(random, grammar.symbols, symbols_in_hundred))?;
+        let piece = random_piece(random, usize::from(grammar.symbols), symbols_in_hundred);
+        pieces.push(piece)?;
     }
     let loose = random.chance(50);
     grammar.add(heap, narrow(left), loose, pieces.as_slice())
@@ -92,44 +91,4 @@ pub(crate) fn counting_grammar(heap: Global) -> Result<Plain, AllocError> {
     grammar.add(heap, 0, false, &[Piece::Range(0, 255); MOST_PARTS])?;
     grammar.add(heap, 0, false, &[Piece::Range(0, 255)])?;
     Ok(grammar)
-}
-
-// The packed table of a grammar without gaps.
-pub(crate) fn write_table(heap: Global, grammar: &Plain) -> Result<Vec<u8>, AllocError> {
-    let mut table = Vec::new(heap);
-    table.extend_from_slice(&narrow(grammar.symbols).to_be_bytes())?;
-    table.extend_from_slice(&narrow(grammar.rules.len()).to_be_bytes())?;
-    table.extend_from_slice(&grammar.start.to_be_bytes())?;
-    table.extend_from_slice(&[0, 0])?;
-    for number in 0..grammar.rules.len() {
-        if let Some(rule) = grammar.rule(narrow(number)) {
-            let mark = if rule.loose { 1 } else { 0 };
-            write_row(&mut table, rule.left, mark, rule.pieces.as_slice())?;
-        }
-    }
-    Ok(table)
-}
-
-fn write_row(table: &mut Vec<u8>, left: u16, mark: u8, pieces: &[Piece]) -> Result<(), AllocError> {
-    let count = u8::try_from(pieces.len()).unwrap_or(u8::MAX);
-    table.extend_from_slice(&left.to_be_bytes())?;
-    table.extend_from_slice(&[mark, count])?;
-    for piece in pieces {
-        table.extend_from_slice(&slot_of(*piece))?;
-    }
-    for _ in pieces.len()..MOST_PARTS {
-        table.extend_from_slice(&[0; 4])?;
-    }
-    Ok(())
-}
-
-fn slot_of(piece: Piece) -> [u8; 4] {
-    match piece {
-        Piece::Symbol(symbol) => {
-            let [high, low] = symbol.to_be_bytes();
-            [1, 0, high, low]
-        }
-        Piece::Range(low, high) => [2, low, high, 0],
-        Piece::Except(x, y, z) => [3, x, y, z],
-    }
 }

@@ -1,10 +1,13 @@
 // The line of `cueline`, against the line that the second checker makes.
+use crate::answers::Answer;
 use crate::damage::{pad, random_byte, random_move, shake};
 use crate::moves::{spell, write_listing};
 use crate::random::Random;
 use crate::tally::Tally;
 use crate::trees::{Budget, grow};
+use second_checker::answers::Said;
 use second_checker::line::line_for;
+use second_checker::numbers::Refusal;
 use second_checker::plain::house;
 use std::alloc::{AllocError, Global};
 
@@ -16,12 +19,9 @@ pub(crate) fn compare_line(
     let input = make_input(heap, random)?;
     let (said, by_second) = line_for(heap, input.as_slice())?;
     let by_product = report::answer(heap, input.as_slice())?;
-    tally.lines = tally.lines.saturating_add(1);
-    tally.hear(said);
-    if by_product.as_bytes() != by_second.as_bytes() {
-        tally.disagree(heap, "line", by_product.as_str(), by_second.as_str())?;
-    }
-    Ok(())
+    tally.lines += 1;
+    tally.hear(Answer(said.map(Said::Loaded).map_err(Refusal::from)));
+    tally.compare(heap, "line", &by_product, &by_second)
 }
 
 // A text of the house grammar, byte 10 and its listing; any of it may be damaged, and sometimes it is about as long as an input may be.
@@ -40,7 +40,7 @@ fn make_input(heap: Global, random: &mut Random) -> Result<Vec<u8>, AllocError> 
     }
     input.extend_from_slice(write_listing(heap, moves.as_slice())?.as_slice())?;
     match random.below(30) {
-        0 | 1 | 2 | 3 | 4 => {
+        0..=4 => {
             let new = random_byte(random);
             shake(random, &mut input, new)?
         }

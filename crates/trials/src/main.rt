@@ -4,6 +4,7 @@
 use std::io;
 use tally::Tally;
 
+mod answers;
 mod calls;
 mod damage;
 mod grammars;

@@ -1,46 +1,43 @@
 // What the product answers, in the form in which both checkers are compared.
-use crate::scenes::{Call, Form, Layers, Scene};
-use cues::answers::{Answer, Reason, Refusal};
-use cues::requests::perform;
+use crate::answers::{Answer, Refused, Told};
+use crate::scenes::{Call, Layers, Scene};
+use cues::answers;
+use cues::answers::Refusal;
+use cues::requests::{Lent, perform};
 use grammar::barred::Barred;
 use grammar::house::House;
 use grammar::spaced::Spaced;
 use grammar::{Grammar, Mark, Part};
-use guide::link_table::LinkTable;
-use guide::listing::Listing;
-use guide::{Event, Finish, Guide};
+use guide::written::Written;
+use guide::{Event, Fault, Guide};
 use memory::blocks::Blocks;
 use packed::Packed;
-use second_checker::answers::{Fault, No, Said, Told};
+use second_checker::answers::{Loaded, Said};
 use second_checker::plain::{Piece, Plain, Rule};
-use second_checker::{Move, narrow};
+use second_checker::{Move, narrow, numbers};
 use std::alloc::{AllocError, Global};
 use tree::verdict;
+use tree::verdict::Reason;
 use walk::state::Frame;
 
 // The answer, what the guide says next, and whether the grammar answers every question as the plain one.
 #[derive(Clone, Copy)]
 pub struct Heard {
-    pub said: Said,
+    pub answer: Answer,
     pub told: Told,
     pub same_grammar: bool,
 }
 
-// Why the product refuses a table: the number and the rule.
-pub(crate) fn table_refusal(table: &[u8]) -> Option<(u8, usize)> {
-    match Packed::open(table) {
-        (_, Ok(())) => None,
-        (_, Err(fault)) => Some((fault.number(), usize::from(fault.rule()))),
-    }
+// Whether the product refuses a table.
+pub(crate) fn table_refusal(table: &[u8]) -> Refused {
+    let fault = Packed::try_from(table).err();
+    Refused(fault.map(|fault| (fault.number(), usize::from(fault.rule()))))
 }
 
-// By which number the product refuses a bar.
-pub(crate) fn bar_refusal(number: u16) -> Option<u8> {
-    let mut barred = Barred::new(House);
-    match barred.bar(number) {
-        Ok(()) => None,
-        Err(refusal) => Some(refusal.number()),
-    }
+// Whether the product refuses to bar a rule number.
+pub(crate) fn bar_refusal(number: u16) -> Refused {
+    let refusal = Barred::new(House).bar(number).err();
+    Refused(refusal.map(|refusal| (refusal.number(), usize::from(number))))
 }
 
 // Makes the call under the scene's grammar.
@@ -60,6 +57,7 @@ pub(crate) fn make_call(
     }
 }
 
+// A number that is refused changes nothing.
 fn barring<B: Grammar>(below: B, bars: &[u16]) -> Barred<B> {
     let mut grammar = Barred::new(below);
     for number in bars {
@@ -68,6 +66,7 @@ fn barring<B: Grammar>(below: B, bars: &[u16]) -> Barred<B> {
     grammar
 }
 
+// Each pile of layers is a type of its own.
 fn under<B: Grammar + Drop>(
     heap: Global,
     memory: &mut Blocks,
@@ -105,105 +104,92 @@ fn with<B: Grammar>(
     buffer: &mut [u8],
     grammar: &B,
 ) -> Result<Heard, AllocError> {
-    let same_grammar = answers_alike(grammar, plain);
-    let bytes = call.guide.as_slice();
-    let (said, told) = match call.form {
-        Form::Listing => guided(heap, memory, call, buffer, grammar, Listing::new(bytes))?,
-        Form::Links => guided(heap, memory, call, buffer, grammar, LinkTable::new(bytes))?,
+    let mut frames = vec![in heap; Frame::BLANK; call.frames]?;
+    let mut lent = Lent {
+        text: call.text.as_slice(),
+        grammar,
+        guide: &mut Written::new(call.form, call.guide.as_slice()),
+        frames: &mut frames,
+        buffer,
     };
+    let answer = perform(memory, call.request, &mut lent);
     Ok(Heard {
-        said,
-        told,
-        same_grammar,
+        answer: Answer::from(answer),
+        told: Told::from(lent.guide.next()),
+        same_grammar: answers_alike(grammar, plain),
     })
 }
 
-fn guided<B: Grammar, G: Guide + Drop>(
-    heap: Global,
-    memory: &mut Blocks,
-    call: &Call,
-    buffer: &mut [u8],
-    grammar: &B,
-    guide: G,
-) -> Result<(Said, Told), AllocError> {
-    let mut guide = guide;
-    let mut frames = vec![in heap; Frame::BLANK; call.frames]?;
-    let text = call.text.as_slice();
-    let answer = perform(
-        memory,
-        call.request,
-        text,
-        grammar,
-        &mut guide,
-        &mut frames,
-        buffer,
-    );
-    Ok((said_by(answer), told_by(guide.next())))
-}
-
-pub(crate) fn said_by(answer: Answer) -> Said {
-    match answer {
-        Answer::Loaded(accepted) => Said::Loaded {
-            rules: accepted.rules as usize,
-            bytes: accepted.bytes,
-            steps: accepted.steps as usize,
-        },
-        Answer::Cleared(number) => Said::Cleared(number),
-        Answer::Fetched(length) => Said::Fetched(length),
-        Answer::Free(blocks) => Said::Free(usize::from(blocks)),
-        Answer::Refused(refusal) => Said::Refused(no_by(refusal)),
+impl From<Result<answers::Answer, Refusal>> for Answer {
+    fn from(answer: Result<answers::Answer, Refusal>) -> Answer {
+        Answer(answer.map(said_by).map_err(refusal_by))
     }
 }
 
-fn no_by(refusal: Refusal) -> No {
-    let fault = match refusal.reason {
-        Reason::Check(verdict::Reason::GuideFault { defect, place }) => Some(Fault {
-            number: defect.number(),
-            place,
+impl From<Result<Option<Event>, Fault>> for Told {
+    fn from(told: Result<Option<Event>, Fault>) -> Told {
+        Told(told.map(|event| event.map(move_by)).map_err(fault_by))
+    }
+}
+
+// By functions, as the three below: what they turn and into what are types of other crates, for which no `From` can stand here.
+fn said_by(answer: answers::Answer) -> Said {
+    match answer {
+        answers::Answer::Loaded(accepted) => Said::Loaded(Loaded {
+            rules: accepted.rules as usize,
+            bytes: accepted.bytes,
+            steps: accepted.steps as usize,
         }),
+        answers::Answer::Cleared(number) => Said::Cleared(number),
+        answers::Answer::Fetched(length) => Said::Fetched(length),
+        answers::Answer::Free(blocks) => Said::Free(usize::from(blocks)),
+    }
+}
+
+fn refusal_by(refusal: Refusal) -> numbers::Refusal {
+    let fault = match refusal {
+        Refusal::Check(
+            verdict::Refusal {
+                reason: Reason::GuideFault(fault),
+                ..
+            },
+        ) => Some(fault_by(fault)),
         _ => None,
     };
-    No {
-        number: refusal.reason.number(),
-        events: refusal.events as usize,
-        bytes: refusal.bytes,
+    numbers::Refusal {
+        number: refusal.number(),
+        events: refusal.events() as usize,
+        bytes: refusal.bytes(),
         fault,
     }
 }
 
-fn told_by(answer: guide::Answer) -> Told {
-    match answer {
-        guide::Answer::Next(Event::Enter(rule)) => Told::Event(Move::Enter(rule)),
-        guide::Answer::Next(Event::Byte(byte)) => Told::Event(Move::Byte(byte)),
-        guide::Answer::Next(Event::Leave) => Told::Event(Move::Leave),
-        guide::Answer::Done(Finish::End) => Told::End,
-        guide::Answer::Done(Finish::Fault { defect, place }) => Told::Broken(Fault {
-            number: defect.number(),
-            place,
-        }),
+fn fault_by(fault: Fault) -> numbers::Fault {
+    numbers::Fault {
+        number: fault.defect.number(),
+        place: fault.place,
+    }
+}
+
+fn move_by(event: Event) -> Move {
+    match event {
+        Event::Enter(rule) => Move::Enter(rule),
+        Event::Byte(byte) => Move::Byte(byte),
+        Event::Leave => Move::Leave,
     }
 }
 
 // Whether the grammar answers each of its questions as the plain one does, past the last rule too.
 fn answers_alike<B: Grammar>(grammar: &B, plain: &Plain) -> bool {
     let count = plain.rules.len();
-    if grammar.start() != plain.start
-        || usize::from(grammar.symbols()) != plain.symbols
-        || usize::from(grammar.rules()) != count
-    {
-        return false;
-    }
-    for number in 0..count.saturating_add(3) {
-        let number = narrow(number);
-        let alike = match plain.rule(number) {
+    let mut numbers = (0..count.saturating_add(3)).map(narrow);
+    grammar.start() == plain.start
+        && grammar.symbols() == plain.symbols
+        && usize::from(grammar.rules()) == count
+        && numbers.all(|number| match plain.rule(number) {
             Some(rule) => has_rule(grammar, number, rule),
             None => has_gap(grammar, number),
-        };
-        if !alike {
-            return false;
-        }
-    }
-    true
+        })
 }
 
 fn has_gap<B: Grammar>(grammar: &B, number: u16) -> bool {
@@ -218,20 +204,15 @@ fn has_rule<B: Grammar>(grammar: &B, number: u16, rule: &Rule) -> bool {
     let Some(count) = grammar.parts(number) else {
         return false;
     };
-    if grammar.left(number) != Some(rule.left)
-        || grammar.mark(number) != Some(mark)
-        || usize::from(count) != rule.pieces.len()
-    {
-        return false;
-    }
-    for (k, piece) in rule.pieces.iter().enumerate() {
-        let k = u8::try_from(k).unwrap_or(u8::MAX);
-        match grammar.part(number, k) {
-            Some(part) if is_piece(part, *piece) => {}
-            _ => return false,
-        }
-    }
-    grammar.part(number, count).is_none()
+    let mut pieces = (0..count).zip(rule.pieces.iter());
+    grammar.left(number) == Some(rule.left)
+        && grammar.mark(number) == Some(mark)
+        && usize::from(count) == rule.pieces.len()
+        && pieces.all(|(k, piece)| match grammar.part(number, k) {
+            Some(part) => is_piece(part, *piece),
+            None => false,
+        })
+        && grammar.part(number, count).is_none()
 }
 
 // The order of the three exceptions does not matter, nor how often one is told.
@@ -242,12 +223,8 @@ fn is_piece(part: Part, piece: Piece) -> bool {
         (Part::Except(a, b, c), Piece::Except(x, y, z)) => {
             let these = [a, b, c];
             let those = [x, y, z];
-            these.contains(&x)
-                && these.contains(&y)
-                && these.contains(&z)
-                && those.contains(&a)
-                && those.contains(&b)
-                && those.contains(&c)
+            these.iter().all(|byte| those.contains(byte))
+                && those.iter().all(|byte| these.contains(byte))
         }
         _ => false,
     }

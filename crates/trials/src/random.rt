@@ -40,9 +40,9 @@ impl Random {
         (self.next() & 0xff) as u8
     }
 
-    // One of the numbers; 0 where there are none.
-    pub(crate) fn one_of(&mut self, numbers: &[usize]) -> usize {
-        let i = self.below(numbers.len());
-        numbers.get(i).copied().unwrap_or(0)
+    // One of the items; the default where there are none.
+    pub(crate) fn one_of<T: Copy + Default + Drop>(&mut self, items: &[T]) -> T {
+        let i = self.below(items.len());
+        items.get(i).copied().unwrap_or_default()
     }
 }

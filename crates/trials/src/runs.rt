@@ -1,14 +1,18 @@
 // Whole runs of calls on one memory, each call compared with the second checker.
+use crate::answers::{Answer, Told};
 use crate::calls::{bare_call, load_call, random_buffer, random_request};
 use crate::lines::compare_line;
-use crate::product::{Heard, make_call};
+use crate::product::make_call;
 use crate::random::Random;
-use crate::scenes::{Call, Form, Scene, Taste, make_scene};
+use crate::scenes::{Call, Scene, Taste, make_scene};
 use crate::tally::Tally;
 use cues::calls::free;
 use cues::requests::Request;
+use guide::written::Form;
 use memory::blocks::Blocks;
-use second_checker::answers::{Said, Told};
+use second_checker::answers::{Refusal, Said};
+use second_checker::failure::answered;
+use second_checker::numbers;
 use second_checker::reading::{Guided, read_link_table, read_listing};
 use second_checker::sheet::Sheet;
 use std::alloc::{AllocError, Global};
@@ -31,7 +35,7 @@ pub(crate) fn run(heap: Global, seed: u64, tally: &mut Tally) -> Result<(), Allo
         let request = random_request(&mut random, taste, &sheet);
         let call = match request {
             Request::Load(_) => {
-                tally.trees = tally.trees.saturating_add(1);
+                tally.trees += 1;
                 load_call(
                     heap,
                     &mut random,
@@ -96,30 +100,26 @@ fn compare_call(
     let mut written = pattern(heap, call.buffer)?;
     let mut buffer = pattern(heap, call.buffer)?;
     let said = second_answer(heap, sheet, scene, call, &guided, &mut written)?;
+    let answer = Answer(said.map_err(numbers::Refusal::from));
+    let told = Told(guided.told_behind(said).map_err(numbers::Fault::from));
     let heard = make_call(heap, memory, scene, call, &mut buffer)?;
-    tally.hear(heard.said);
-    compare_answers(heap, heard, said, guided.told_behind(said), tally)?;
+    tally.hear(heard.answer);
+    tally.compare(heap, "answer", &heard.answer, &answer)?;
+    tally.compare(heap, "guide", &heard.told, &told)?;
+    if !heard.same_grammar {
+        tally.disagree(heap, "grammar", "one", "another")?;
+    }
     if buffer.as_slice() != written.as_slice() {
         tally.disagree(heap, "buffer", "one", "another")?;
     }
     let by_product = usize::from(free(memory));
-    let by_second = sheet.free();
     tally.fewest_free = tally.fewest_free.min(by_product);
-    if by_product != by_second {
-        let a = by_product.to_string(heap)?;
-        let b = by_second.to_string(heap)?;
-        tally.disagree(heap, "free", a.as_str(), b.as_str())?;
-    }
-    Ok(())
+    tally.compare(heap, "free", &by_product, &sheet.free())
 }
 
 // What a buffer holds before a call.
 fn pattern(heap: Global, length: usize) -> Result<Vec<u8>, AllocError> {
-    let mut buffer = Vec::new(heap);
-    for i in 0..length {
-        buffer.push((i % 251) as u8)?;
-    }
-    Ok(buffer)
+    (0..=250u8).cycle().take(length).collect(heap)
 }
 
 fn second_answer(
@@ -128,38 +128,22 @@ fn second_answer(
     scene: &Scene,
     call: &Call,
     guided: &Guided,
-    buffer: &mut Vec<u8>,
-) -> Result<Said, AllocError> {
+    buffer: &mut [u8],
+) -> Result<Result<Said, Refusal>, AllocError> {
     match call.request {
         Request::Load(number) => {
             let text = call.text.as_slice();
-            sheet.load(heap, number, text, &scene.plain, guided, call.frames)
+            let load = sheet.load(heap, number, text, &scene.plain, guided, call.frames);
+            Ok(answered(load)?.map(Said::Loaded))
         }
-        Request::Clear(number) => Ok(sheet.clear(number)),
-        Request::Fetch(number) => Ok(sheet.fetch(number, buffer)),
-        Request::Free => Ok(Said::Free(sheet.free())),
+        Request::Clear(number) => {
+            let cleared = sheet.clear(number).map_err(Refusal::from);
+            Ok(cleared.map(|()| Said::Cleared(number)))
+        }
+        Request::Fetch(number) => {
+            let fetched = sheet.fetch(number, buffer).map_err(Refusal::from);
+            Ok(fetched.map(Said::Fetched))
+        }
+        Request::Free => Ok(Ok(Said::Free(sheet.free()))),
     }
-}
-
-fn compare_answers(
-    heap: Global,
-    heard: Heard,
-    said: Said,
-    told: Told,
-    tally: &mut Tally,
-) -> Result<(), AllocError> {
-    if heard.said != said {
-        let a = heard.said.to_string(heap)?;
-        let b = said.to_string(heap)?;
-        tally.disagree(heap, "answer", a.as_str(), b.as_str())?;
-    }
-    if heard.told != told {
-        let a = heard.told.to_string(heap)?;
-        let b = told.to_string(heap)?;
-        tally.disagree(heap, "guide", a.as_str(), b.as_str())?;
-    }
-    if !heard.same_grammar {
-        tally.disagree(heap, "grammar", "one", "another")?;
-    }
-    Ok(())
 }

@@ -1,13 +1,17 @@
 // What the calls of a run are handed: a scene is the grammar, and a call has all else.
+use crate::answers::Refused;
 use crate::damage::shake;
-use crate::grammars::{Build, counting_grammar, random_grammar, write_table};
+use crate::grammars::{Build, counting_grammar, random_grammar};
 use crate::product;
 use crate::random::Random;
 use crate::tally::Tally;
 use cues::requests::Request;
+use guide::written::Form;
+use second_checker::failure::answered;
 use second_checker::narrow;
-use second_checker::plain::{Plain, bar_refusal, house, spaced};
+use second_checker::plain::{Plain, house, spaced};
 use second_checker::table::read_table;
+use second_checker::writing::write_table;
 use std::alloc::{AllocError, Global};
 
 // What the trees of a run are to be like: small, with long texts, with many nodes open at once, or with a number of nodes at the limits.
@@ -28,12 +32,6 @@ pub enum Layers {
     BlanksOverBars,
     BarsOverBlanks,
     BlanksTwice,
-}
-
-#[derive(Clone, Copy)]
-pub enum Form {
-    Listing,
-    Links,
 }
 
 // A grammar twice: as the product is handed it, with the house grammar where there is no table, and as plain data.
@@ -61,7 +59,7 @@ pub(crate) fn make_scene(
     taste: Taste,
     tally: &mut Tally,
 ) -> Result<Scene, AllocError> {
-    tally.grammars = tally.grammars.saturating_add(1);
+    tally.grammars += 1;
     let layers = match taste {
         Taste::Counted => Layers::Blanks,
         _ => random_layers(random),
@@ -119,8 +117,7 @@ fn make_table(
 // of a rule's head or of its first slot. Or bytes come or go.
 fn damage_table(random: &mut Random, table: &mut Vec<u8>) -> Result<(), AllocError> {
     let symbols = table.get(1).copied().unwrap_or(0);
-    let new = random.one_of(&[0, 1, 2, 3, 15, 16, 255, usize::from(symbols)]);
-    let new = u8::try_from(new).unwrap_or(0);
+    let new = random.one_of(&[0, 1, 2, 3, 15, 16, 255, symbols]);
     let row = random.below(table.len() / 64).saturating_mul(64);
     let offset = match random.below(5) {
         0 => random.below(8),
@@ -138,20 +135,14 @@ fn damage_table(random: &mut Random, table: &mut Vec<u8>) -> Result<(), AllocErr
 // The plain grammar of a table. Where the two checks of the table differ, that is noted.
 fn open_table(heap: Global, table: &[u8], tally: &mut Tally) -> Result<Plain, AllocError> {
     let by_product = product::table_refusal(table);
-    let (plain, by_second) = match read_table(heap, table)? {
+    let (plain, flaw) = match answered(read_table(heap, table))? {
         Ok(plain) => (plain, None),
-        Err(flaw) => (Plain::empty(heap), Some(flaw.told())),
+        Err(flaw) => (Plain::empty(heap), Some((flaw.number(), flaw.rule()))),
     };
-    if let Some((number, _)) = by_product {
+    if let Some((number, _)) = by_product.0 {
         tally.count(number);
     }
-    if by_product != by_second {
-        let (a, rule_a) = by_product.unwrap_or((0, 0));
-        let (b, rule_b) = by_second.unwrap_or((0, 0));
-        let a = format!(in heap; "{a} at rule {rule_a}")?;
-        let b = format!(in heap; "{b} at rule {rule_b}")?;
-        tally.disagree(heap, "table", a.as_str(), b.as_str())?;
-    }
+    tally.compare(heap, "table", &by_product, &Refused(flaw))?;
     Ok(plain)
 }
 
@@ -166,9 +157,8 @@ fn make_bars(
         let number = if random.chance(5) {
             random.one_of(&[1_023, 1_024, 1_025, 2_047, 65_535])
         } else {
-            random.below(rules.saturating_add(3))
+            narrow(random.below(rules.saturating_add(3)))
         };
-        let number = narrow(number);
         compare_bar(heap, number, tally)?;
         bars.push(number)?;
     }
@@ -177,16 +167,12 @@ fn make_bars(
 
 fn compare_bar(heap: Global, number: u16, tally: &mut Tally) -> Result<(), AllocError> {
     let by_product = product::bar_refusal(number);
-    let by_second = bar_refusal(number);
-    if let Some(refusal) = by_product {
+    let flaw = Plain::empty(heap).bar(number).err();
+    if let Some((refusal, _)) = by_product.0 {
         tally.count(refusal);
     }
-    if by_product != by_second {
-        let a = by_product.unwrap_or(0).to_string(heap)?;
-        let b = by_second.unwrap_or(0).to_string(heap)?;
-        tally.disagree(heap, "bar", a.as_str(), b.as_str())?;
-    }
-    Ok(())
+    let by_second = Refused(flaw.map(|flaw| (flaw.number(), usize::from(number))));
+    tally.compare(heap, "bar", &by_product, &by_second)
 }
 
 fn put_layers(
@@ -195,23 +181,20 @@ fn put_layers(
     layers: Layers,
     bars: &[u16],
 ) -> Result<Plain, AllocError> {
-    let mut grammar = below;
     match layers {
-        Layers::Bare => Ok(grammar),
-        Layers::Blanks => spaced(heap, grammar),
-        Layers::Bars => {
-            grammar.bar(bars);
-            Ok(grammar)
-        }
-        Layers::BlanksOverBars => {
-            grammar.bar(bars);
-            spaced(heap, grammar)
-        }
-        Layers::BarsOverBlanks => {
-            let mut above = spaced(heap, grammar)?;
-            above.bar(bars);
-            Ok(above)
-        }
-        Layers::BlanksTwice => spaced(heap, spaced(heap, grammar)?),
+        Layers::Bare => Ok(below),
+        Layers::Blanks => spaced(heap, below),
+        Layers::Bars => Ok(barred(below, bars)),
+        Layers::BlanksOverBars => spaced(heap, barred(below, bars)),
+        Layers::BarsOverBlanks => Ok(barred(spaced(heap, below)?, bars)),
+        Layers::BlanksTwice => spaced(heap, spaced(heap, below)?),
     }
+}
+
+fn barred(below: Plain, bars: &[u16]) -> Plain {
+    let mut grammar = below;
+    for number in bars {
+        let _ = grammar.bar(*number);
+    }
+    grammar
 }

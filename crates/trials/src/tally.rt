@@ -1,7 +1,11 @@
 // What came up in the trials.
+use crate::answers::Answer;
 use second_checker::answers::Said;
 use std::alloc::{AllocError, Global};
+use std::collections::BTreeMap;
+use std::fmt::Display;
 use std::io;
+use std::num::Saturating;
 
 // How many disagreements are printed.
 const MOST_REPORTS: usize = 20;
@@ -14,68 +18,88 @@ const NUMBERS: [u8; 29] = [
 
 #[derive(Drop)]
 pub struct Tally {
-    pub runs: usize,
-    pub calls: usize,
-    pub lines: usize,
-    pub grammars: usize,
-    pub trees: usize,
+    pub runs: Saturating<usize>,
+    pub calls: Saturating<usize>,
+    pub lines: Saturating<usize>,
+    pub grammars: Saturating<usize>,
+    pub trees: Saturating<usize>,
     pub fewest_free: usize,
-    accepted: usize,
-    refusals: Vec<usize>,
-    disagreements: usize,
+    accepted: Saturating<usize>,
+    refusals: BTreeMap<u8, Saturating<usize>>,
+    disagreements: Saturating<usize>,
     reports: Vec<String>,
-    reported: Option<(u64, usize)>,
+    reported: Option<(u64, Saturating<usize>)>,
     seed: u64,
-    call: usize,
+    call: Saturating<usize>,
 }
 
 impl Tally {
     pub(crate) fn new(heap: Global) -> Result<Tally, AllocError> {
+        let none = Saturating(0);
+        let mut refusals = BTreeMap::new(heap);
+        for number in NUMBERS {
+            let _ = refusals.insert(number, none)?;
+        }
         Ok(Tally {
-            runs: 0,
-            calls: 0,
-            lines: 0,
-            grammars: 0,
-            trees: 0,
+            runs: none,
+            calls: none,
+            lines: none,
+            grammars: none,
+            trees: none,
             fewest_free: usize::MAX,
-            accepted: 0,
-            refusals: vec![in heap; 0usize; 57]?,
-            disagreements: 0,
+            accepted: none,
+            refusals,
+            disagreements: none,
             reports: Vec::new(heap),
             reported: None,
             seed: 0,
-            call: 0,
+            call: none,
         })
     }
 
     pub(crate) fn count(&mut self, number: u8) {
-        if let Some(count) = self.refusals.get_mut(usize::from(number)) {
-            *count = count.saturating_add(1);
+        if let Some(count) = self.refusals.get_mut(&number) {
+            *count += 1;
         }
     }
 
-    pub(crate) fn hear(&mut self, said: Said) {
-        match said {
-            Said::Loaded { .. } => self.accepted = self.accepted.saturating_add(1),
-            Said::Refused(no) => {
-                self.count(no.number);
-                if let Some(fault) = no.fault {
+    pub(crate) fn hear(&mut self, answer: Answer) {
+        match answer.0 {
+            Ok(Said::Loaded(_)) => self.accepted += 1,
+            Ok(_) => {}
+            Err(refusal) => {
+                self.count(refusal.number);
+                if let Some(fault) = refusal.fault {
                     self.count(fault.number);
                 }
             }
-            _ => {}
         }
     }
 
     pub(crate) fn begin_run(&mut self, seed: u64) {
-        self.runs = self.runs.saturating_add(1);
+        self.runs += 1;
         self.seed = seed;
-        self.call = 0;
+        self.call = Saturating(0);
     }
 
     pub(crate) fn begin_call(&mut self) {
-        self.calls = self.calls.saturating_add(1);
-        self.call = self.call.saturating_add(1);
+        self.calls += 1;
+        self.call += 1;
+    }
+
+    pub(crate) fn compare<T: PartialEq + Display>(
+        &mut self,
+        heap: Global,
+        what: &str,
+        product: &T,
+        second: &T,
+    ) -> Result<(), AllocError> {
+        if product != second {
+            let product = product.to_string(heap)?;
+            let second = second.to_string(heap)?;
+            self.disagree(heap, what, product.as_str(), second.as_str())?;
+        }
+        Ok(())
     }
 
     // Notes that the two differ at the call that was begun last, or behind it. Of a run only the first such call is reported, since
@@ -87,7 +111,7 @@ impl Tally {
         product: &str,
         second: &str,
     ) -> Result<(), AllocError> {
-        self.disagreements = self.disagreements.saturating_add(1);
+        self.disagreements += 1;
         let seed = self.seed;
         let call = self.call;
         let first = match self.reported {
@@ -102,10 +126,6 @@ impl Tally {
             self.reports.push(report)?;
         }
         Ok(())
-    }
-
-    fn times(&self, number: u8) -> usize {
-        self.refusals.get(usize::from(number)).copied().unwrap_or(0)
     }
 
     pub(crate) fn print(&self, rt: &HostRuntime) -> io::Result<()> {
@@ -135,12 +155,9 @@ impl Tally {
 
     // A line for each number, and whether all of them came up.
     fn print_refusals(&self, rt: &HostRuntime) -> io::Result<bool> {
-        let mut all = true;
-        for number in NUMBERS {
-            let times = self.times(number);
+        for (number, times) in self.refusals.iter() {
             println!(rt; "refusal {number}: {times}")?;
-            all = all && times > 0;
         }
-        Ok(all)
+        Ok(self.refusals.values().all(|times| times.0 > 0))
     }
 }

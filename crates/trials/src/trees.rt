@@ -1,7 +1,8 @@
 // Random trees of a grammar, as their walks.
-use crate::grammars::{MANY_BYTES, MOST_PARTS, ONE_BYTE};
+use crate::grammars::{MANY_BYTES, ONE_BYTE};
 use crate::random::Random;
 use second_checker::plain::{Piece, Plain, Rule};
+use second_checker::writing::MOST_PARTS;
 use second_checker::{Move, narrow};
 use std::alloc::{AllocError, Global};
 
@@ -29,31 +30,28 @@ enum Pending {
 
 // The least height of a tree with that rule at its root, by the least heights of the symbols.
 fn rule_height(rule: &Rule, heights: &[usize]) -> usize {
-    let mut highest = 0;
-    for piece in rule.pieces.iter() {
-        if let Piece::Symbol(symbol) = piece {
-            let height = heights
-                .get(usize::from(*symbol))
-                .copied()
-                .unwrap_or(ENDLESS);
-            highest = height.max(highest);
-        }
-    }
-    highest.saturating_add(1)
+    let below = rule.pieces.iter().filter_map(|piece| match piece {
+        Piece::Symbol(symbol) => Some(height_of(*symbol, heights)),
+        Piece::Range(_, _) | Piece::Except(_, _, _) => None,
+    });
+    below.max().unwrap_or(0).saturating_add(1)
+}
+
+fn height_of(symbol: u16, heights: &[usize]) -> usize {
+    let height = heights.get(usize::from(symbol));
+    height.copied().unwrap_or(ENDLESS)
 }
 
 // Lowers the heights by each rule once, and says whether one was lowered.
 fn lower(grammar: &Plain, heights: &mut Vec<usize>) -> bool {
     let mut lowered = false;
-    for rule in grammar.rules.iter() {
-        if let Some(rule) = rule {
-            let height = rule_height(rule, heights.as_slice());
-            if let Some(least) = heights.get_mut(usize::from(rule.left)) {
-                if height < *least {
-                    *least = height;
-                    lowered = true;
-                }
-            }
+    for rule in grammar.rules.iter().flatten() {
+        let height = rule_height(rule, heights.as_slice());
+        if let Some(least) = heights.get_mut(usize::from(rule.left))
+            && height < *least
+        {
+            *least = height;
+            lowered = true;
         }
     }
     lowered
@@ -61,7 +59,7 @@ fn lower(grammar: &Plain, heights: &mut Vec<usize>) -> bool {
 
 // The least height of a tree of each symbol.
 fn least_heights(heap: Global, grammar: &Plain) -> Result<Vec<usize>, AllocError> {
-    let mut heights = vec![in heap; ENDLESS; grammar.symbols]?;
+    let mut heights = vec![in heap; ENDLESS; usize::from(grammar.symbols)]?;
     for _ in 0..grammar.symbols {
         if !lower(grammar, &mut heights) {
             break;
@@ -70,28 +68,32 @@ fn least_heights(heap: Global, grammar: &Plain) -> Result<Vec<usize>, AllocError
     Ok(heights)
 }
 
-// A rule of the symbol that has finite trees: the lowest, or any.
-fn choose_rule(
-    random: &mut Random,
-    grammar: &Plain,
-    heights: &[usize],
-    symbol: u16,
-    lowest: bool,
-) -> Option<u16> {
+// The height of the lowest tree of a rule, if it is one of the symbol and has finite trees.
+fn height_for(rule: &Option<Rule>, heights: &[usize], symbol: u16) -> Option<usize> {
+    let rule = rule.as_ref().filter(|rule| rule.left == symbol)?;
+    let height = rule_height(rule, heights);
+    (height < ENDLESS).then_some(height)
+}
+
+// The rule of the symbol with the lowest tree, the first of these.
+fn lowest_rule(grammar: &Plain, heights: &[usize], symbol: u16) -> Option<u16> {
+    let rules = grammar.rules.iter().enumerate();
+    let fitting = rules.filter_map(|(number, rule)| {
+        let height = height_for(rule, heights, symbol)?;
+        Some((height, number))
+    });
+    let (_, number) = fitting.min()?;
+    Some(narrow(number))
+}
+
+// Any rule of the symbol that has finite trees.
+fn any_rule(random: &mut Random, grammar: &Plain, heights: &[usize], symbol: u16) -> Option<u16> {
+    let rules = grammar.rules.iter().enumerate();
+    let fitting = rules.filter(|(_, rule)| height_for(rule, heights, symbol).is_some());
     let mut chosen = None;
-    let mut seen = 0usize;
-    let mut least = ENDLESS;
-    for number in 0..grammar.rules.len() {
-        let number = narrow(number);
-        if let Some(rule) = grammar.rule(number) {
-            let height = rule_height(rule, heights);
-            if rule.left == symbol && height < ENDLESS {
-                seen = seen.saturating_add(1);
-                if (lowest && height < least) || (!lowest && random.below(seen) == 0) {
-                    chosen = Some(number);
-                    least = height;
-                }
-            }
+    for (seen, (number, _)) in fitting.enumerate() {
+        if random.below(seen.saturating_add(1)) == 0 {
+            chosen = Some(narrow(number));
         }
     }
     chosen
@@ -107,7 +109,7 @@ fn growing_rule(
 ) -> Option<u16> {
     let mut chosen = None;
     for _ in 0..tries {
-        chosen = choose_rule(random, grammar, heights, symbol, false);
+        chosen = any_rule(random, grammar, heights, symbol);
         let rule = grammar.rule(chosen.unwrap_or(0));
         if let Some(rule) = rule
             && rule_height(rule, heights) > 1
@@ -127,13 +129,9 @@ fn random_leaf(random: &mut Random, piece: Piece) -> u8 {
             u8::try_from(byte).unwrap_or(high)
         }
         Piece::Except(_, _, _) => {
-            let mut byte = random.byte();
-            for _ in 0..4 {
-                if !piece.admits(byte) {
-                    byte = byte.wrapping_add(1);
-                }
-            }
-            byte
+            let byte = random.byte();
+            let mut behind = (0..4u8).map(|i| byte.wrapping_add(i));
+            behind.find(|byte| piece.admits(*byte)).unwrap_or(byte)
         }
     }
 }
@@ -174,7 +172,7 @@ pub(crate) fn grow(
                 let lowest = moves.len() >= budget.moves || depth >= budget.depth;
                 let heights = heights.as_slice();
                 let rule = if lowest {
-                    choose_rule(random, grammar, heights, symbol, true)
+                    lowest_rule(grammar, heights, symbol)
                 } else {
                     growing_rule(random, grammar, heights, symbol, budget.tries)
                 };

@@ -1,17 +1,15 @@
 -- Where a walk stands, by the frames of its open nodes: the row of parts that each has still to come.
-use Rattle.std.specs.Prelude.{◌≡◌, ℕ, zero, suc, ◌+◌, ◌<◌, List, [], ◌∷◌, length, drop, Some, None, Option}
+use Rattle.std.specs.Prelude.{◌≡◌, ℕ, zero, suc, ◌+◌, ◌<◌, List, [], ◌∷◌, length, drop, Some, None, Ok, Err, Option, Result}
+use Rattle.guide.specs.declared.Event.{Event}
 use Rattle.guide.specs.Stack.{held}
 use Rattle.grammar.specs.declared.Part.{Part}
-use Rattle.grammar.specs.declared.Part.TheVariants.{Symbol, Range, Except}
+use Rattle.grammar.specs.declared.Part.TheVariants.{Symbol}
 use Rattle.grammar.specs.Meaning.{Rule, Meaning}
-use Rattle.guide.specs.declared.Answer.{Answer}
-use Rattle.guide.specs.declared.Event.{Event}
-use Rattle.tree.specs.Check.{State, going, over, of_kind, step}
-use Rattle.tree.specs.Check as theory
+use Rattle.tree.specs.declared.verdict.Reason.{Reason}
+use Rattle.tree.specs.declared.verdict.Refusal.{Refusal}
+use Rattle.tree.specs.Check.{State, Progress, going, over, no, of_kind, on_event}
 use Rattle.walk.specs.declared.state.Frame.{Frame}
 use Rattle.walk.specs.declared.state.Walk.{Walk}
-use Rattle.walk.specs.declared.state.Progress.{Progress}
-use Rattle.walk.specs.declared.state.Progress.TheVariants.{Going, Over}
 
 abbrev pub parts_of : Option Rule → List Part
 parts_of None = []
@@ -40,40 +38,23 @@ other_rows [] = []
 other_rows (ps ∷ pss) = pss
 
 -- the parts still to come of the newest open node, and of the older ones
-abbrev pub parts_now : Meaning → List Frame → Walk → List Part
-parts_now g frames w = first_row (all_rows g w.rules (held frames w.depth))
+abbrev pub parts_now : {B : Type 0} → Meaning → Walk B → List Part
+parts_now g w = first_row (all_rows g w.counts.rules (held w.frames.now w.counts.depth))
 
-abbrev pub older_now : Meaning → List Frame → Walk → List (List Part)
-older_now g frames w = other_rows (all_rows g w.rules (held frames w.depth))
+abbrev pub older_now : {B : Type 0} → Meaning → Walk B → List (List Part)
+older_now g w = other_rows (all_rows g w.counts.rules (held w.frames.now w.counts.depth))
 
 -- the state of the check at which a walk stands
-abbrev pub state_of : Meaning → List Frame → List ℕ → Walk → State
-state_of g frames text w =
+abbrev pub state_of : {B : Type 0} → Meaning → Walk B → State
+state_of g w =
     record {
-      parts = parts_now g frames w;
-      older = older_now g frames w;
-      text = drop w.used text;
-      rules = w.rules;
-      bytes = w.used;
-      events = w.events;
+      parts = parts_now g w;
+      older = older_now g w;
+      text = drop w.counts.used w.text.now;
+      rules = w.counts.rules;
+      bytes = w.counts.used;
+      events = w.counts.events;
     }
-
-abbrev pub progress_of : Meaning → List Frame → List ℕ → Progress → theory.Progress
-progress_of g frames text (Going w) = going (state_of g frames text w)
-progress_of g frames text (Over v) = over v
-
--- the awaited part where it is a symbol, and where it is not
-abbrev pub as_symbol : Option Part → Option ℕ
-as_symbol None = None
-as_symbol (Some (Symbol a)) = Some a
-as_symbol (Some (Range low high)) = None
-as_symbol (Some (Except x y z)) = None
-
-abbrev pub as_leaf : Option Part → Option Part
-as_leaf None = None
-as_leaf (Some (Symbol a)) = None
-as_leaf (Some (Range low high)) = Some (Range low high)
-as_leaf (Some (Except x y z)) = Some (Except x y z)
 
 -- the newest open node's awaited part is behind
 abbrev pub advanced : List Frame → List Frame
@@ -85,10 +66,31 @@ abbrev pub NextFits : List Frame → Type 0
 NextFits [] = Unit {0}
 NextFits (f ∷ fs) = f.next < 255
 
--- the event e, of which there are not too many, takes the walk w to r and the frames to frames'
-abbrev pub Takes : Meaning → List ℕ → List Frame → Walk → Event → Progress → List Frame → Type 0
-Takes g text frames w e r frames' = progress_of g frames' text r ≡ of_kind g (length frames) (state_of g frames text w) e
+-- the check goes on where the walk stands, or is over with a reason and the walk's counts
+abbrev pub led_to : {B : Type 0} → Meaning → Result Unit Reason → Walk B → Progress
+led_to g (Ok _) w = going (state_of g w)
+led_to g (Err why) w = no why (state_of g w)
 
--- the answer a takes the walk w to r and the frames to frames', as the check of the same answer goes
-abbrev pub Steps : Meaning → List ℕ → List Frame → Walk → Answer → Progress → List Frame → Type 0
-Steps g text frames w a r frames' = progress_of g frames' text r ≡ step g (length frames) (state_of g frames text w) a
+-- the check goes on where the walk stands, or is over with a refusal
+abbrev pub progress_of : {B : Type 0} → Meaning → Result Unit Refusal → Walk B → Progress
+progress_of g (Ok _) w = going (state_of g w)
+progress_of g (Err f) w = over (Err f)
+
+-- the event e, of which there are not too many, takes the walk w to w', or is refused
+abbrev pub Takes : {B : Type 0} → Meaning → Walk B → Event → Result Unit Reason → Walk B → Type 0
+Takes g w e r w' = led_to g r w' ≡ of_kind g (length w.frames.now) (state_of g w) e
+
+-- the same of any event
+abbrev pub Follows : {B : Type 0} → Meaning → Walk B → Event → Result Unit Reason → Walk B → Type 0
+Follows g w e r w' = led_to g r w' ≡ on_event g (length w.frames.now) (state_of g w) e
+
+-- the event e takes the walk w to w', or is refused, as the check of the same event goes
+abbrev pub Steps : {B : Type 0} → Meaning → Walk B → Event → Result Unit Refusal → Walk B → Type 0
+Steps g w e r w' = progress_of g r w' ≡ on_event g (length w.frames.now) (state_of g w) e
+
+-- what a walk is lent stays what it was, but for the entries of the frame memory
+pub record SameLoans {B : Type 0} (w w' : Walk B) : Type 0 where
+  pub grammar : w'.grammar.now ≡ w.grammar.now
+  pub text : w'.text.now ≡ w.text.now
+  pub memory : w'.frames.ghost_name ≡ w.frames.ghost_name
+  pub frames : length w'.frames.now ≡ length w.frames.now

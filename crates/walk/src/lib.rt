@@ -1,23 +1,25 @@
 // The check of a guide against a grammar and a text.
 #![tactic(auto)]
 
-ghost use Rattle.std.specs.Prelude.{◌≡◌, ℕ, length};
+ghost use Rattle.std.specs.Prelude.{◌≡◌, length};
 ghost use Rattle.guide.specs.Told.{after};
-ghost use Rattle.tree.specs.Check.{depth_limit, verdict};
+ghost use Rattle.tree.specs.Check.{depth_limit, verdict, run, going};
 ghost use Rattle.tree.specs.Theorems.{AcceptedExactly, RefusedWhere};
 ghost use Rattle.tree.specs.Verdict.{taken};
+ghost use Rattle.walk.specs.Rows.{state_of};
 
 use grammar::Grammar;
 use guide::Guide;
-use state::{Frame, Progress, Walk};
-use tree::verdict::Verdict;
+use state::{Frame, Walk};
+use tree::verdict::{Reason, Verdict};
 
 pub mod state;
 
 // The most frames that count, however many are lent.
 const MOST_FRAMES: usize = 1_024;
 
-// Takes answers until the walk has its verdict.
+// Takes events until the walk has its verdict. A fault's refusal is made by the counts: of a closure that captures the walk, a proof
+// would not know what it returns.
 fn follow<B: Grammar, G: Guide>(
     grammar: &B,
     guide: &mut G,
@@ -27,13 +29,14 @@ fn follow<B: Grammar, G: Guide>(
     ensures verdict { result ≡ verdict (B.Grammar.meaning grammar.now) (length frames.old) text.now (G.Guide.told guide.old) }
     ensures behind_last { G.Guide.told guide.new ≡ after (taken result) (G.Guide.told guide.old) }
 {
-    let mut walk = Walk::new();
-    loop {
-        match walk.take(grammar, text, frames, guide.next()) {
-            Progress::Going(next) => walk = next,
-            Progress::Over(verdict) => return verdict,
-        }
+    let mut walk = Walk::new(grammar, text, frames);
+    while let Some(event) = guide
+        .next()
+        .map_err(|fault| walk.counts.refusal(Reason::GuideFault(fault)))?
+    {
+        walk.take(event)?;
     }
+    walk.finish()
 }
 
 // Checks the guide against the grammar and the text. The verdict is the definition's, for every grammar, guide, text and frame memory;
@@ -51,5 +54,5 @@ pub fn check<B: Grammar, G: Guide>(
     ensures behind_last { G.Guide.told guide.new ≡ after (taken result) (G.Guide.told guide.old) }
 {
     let limit = frames.len().min(MOST_FRAMES);
-    follow(grammar, guide, text, &mut frames[0..limit])
+    follow(grammar, guide, text, &mut frames[..limit])
 }

@@ -1,7 +1,5 @@
-// Where a walk stands between two answers.
+// Where a walk stands between two events.
 ghost use Rattle.std.specs.Prelude.{◌≤◌};
-
-use tree::verdict::Verdict;
 
 pub mod turn;
 
@@ -18,10 +16,9 @@ impl Frame {
     pub const BLANK: Frame = Frame { rule: 0, next: 0 };
 }
 
-// How many nodes are open, and the rules entered, the text bytes used and the events accepted so far. The frames of the open nodes
-// are kept in memory that the caller lends, in the same slots from one answer to the next.
+// How many nodes are open, and the rules entered, the text bytes used and the events accepted so far.
 #[derive(Clone, Copy)]
-pub struct Walk {
+pub(crate) struct Counts {
     depth: usize,
     rules: u32,
     used: usize,
@@ -32,9 +29,12 @@ pub struct Walk {
     ghost few: { events ≤ 16000 },
 }
 
-// The walk goes on, or it has its verdict.
-#[derive(Clone, Copy)]
-pub enum Progress {
-    Going(Walk),
-    Over(Verdict),
+// A walk over a text by a grammar. The frames of the open nodes are kept in memory that the caller lends, in the same slots from one
+// event to the next.
+#[derive(Drop)]
+pub struct Walk<'a, B> {
+    grammar: &'a B,
+    text: &'a [u8],
+    frames: &'a mut [Frame],
+    pub(crate) counts: Counts,
 }

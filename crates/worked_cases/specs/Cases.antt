@@ -23,7 +23,7 @@ pub data Numbers : Type 0 where
   faulty : ℕ → ℕ → ℕ → ℕ → ℕ → Numbers
 
 abbrev pub refused_by : Reason → ℕ → ℕ → Numbers
-refused_by (GuideFault defect place) events bytes = faulty (reason_number (GuideFault defect place)) events bytes (defect_number defect) place
+refused_by (GuideFault fault) events bytes = faulty (reason_number (GuideFault fault)) events bytes (defect_number fault.defect) fault.place
 refused_by TooManyEvents events bytes = no (reason_number TooManyEvents) events bytes
 refused_by NotAwaited events bytes = no (reason_number NotAwaited) events bytes
 refused_by NoSuchRule events bytes = no (reason_number NoSuchRule) events bytes

@@ -1,4 +1,4 @@
-use Rattle.std.proofs.Common.{◌≡◌, ℕ, ◌-◌, min, List, length, take, sym, ap, ◌∙◌, subst, arith, length-take}
+use Rattle.std.proofs.Common.{◌≡◌, ℕ, min, List, length, take, sym, ap, ◌∙◌, subst, arith, length-take}
 use Rattle.tree.specs.Check.{depth_limit, verdict}
 use Rattle.tree.specs.Theorems.{AcceptedExactly, RefusedWhere}
 use Rattle.tree.proofs.Complete.{accepted_exactly_when_a_tree_is_told}
@@ -6,7 +6,7 @@ use Rattle.tree.proofs.Refusals.{refusals_say_where}
 use Rattle.walk.proofs.check.Goals as goal
 
 -- the frames that are lent on are as many as count
-capped : {A : Type 0} (k : ℕ) (frames : List A) → k ≡ min (length frames) 1024 → length (take (k - 0) frames) ≡ depth_limit (length frames)
+capped : {A : Type 0} (k : ℕ) (frames : List A) → k ≡ min (length frames) 1024 → length (take k frames) ≡ depth_limit (length frames)
 capped k frames e = simp length-take (omega arith)
 
 pub returns : goal.returns

@@ -1,54 +1,36 @@
-// One turn of a walk: one answer of the guide is taken.
-ghost use Rattle.std.specs.Prelude.{◌≡◌, ℕ, ◌<◌, false, List, length};
+// One turn of a walk: one event of the guide is taken.
+ghost use Rattle.std.specs.Prelude.{◌≡◌, ◌<◌};
 ghost use Rattle.guide.specs.Stack.{held, newest};
+ghost use Rattle.guide.specs.Told.{End};
 ghost use Rattle.grammar.specs.Meaning.{Meaning};
-ghost use Rattle.tree.specs.Check.{over, begin, at_finish};
-ghost use Rattle.tree.specs.Verdict.{refusal, refused};
-ghost use Rattle.walk.specs.Rows.{parts_now, state_of, progress_of, as_symbol, as_leaf, advanced, NextFits, Takes, Steps};
+ghost use Rattle.tree.specs.Check.{begin, at_finish};
+ghost use Rattle.tree.specs.Verdict.{refusal};
+ghost use Rattle.walk.specs.Rows.{parts_now, state_of, advanced, NextFits, Takes, Follows, Steps, SameLoans};
 
-use super::{Frame, Progress, Walk};
+use super::{Counts, Frame, Walk};
 use grammar::{Grammar, Part};
+use guide::Event;
 use guide::stack::{pop, push, top};
-use guide::{Answer, Event, Finish};
 use tree::verdict::{Accepted, Reason, Refusal, Verdict};
 
 // The most events that a walk may have.
 const MOST_EVENTS: u32 = 16_000;
 
 // The awaited part of the newest open node is matched, so the part behind it is awaited next.
-fn advance(frames: &mut [Frame], depth: usize)
+fn advance(frames: &mut [Frame], mut depth: usize)
     requires { NextFits (held frames.old depth) }
     ensures { held frames.new depth ≡ advanced (held frames.old depth) }
 {
-    let mut depth = depth;
     if let Some(frame) = pop(frames, &mut depth) {
         let next = frame.next + 1;
-        push(
-            frames,
-            &mut depth,
-            Frame {
-                rule: frame.rule,
-                next,
-            },
-        );
+        let _ = push(frames, &mut depth, Frame { next, ..frame });
     }
 }
 
-impl Walk {
-    // A walk that has taken no answer yet.
-    pub fn new() -> Walk
-        ensures { (g : Meaning) (frames : List Frame) (text : List ℕ) → state_of g frames text result ≡ begin g text }
-    {
-        Walk {
-            depth: 0,
-            rules: 0,
-            used: 0,
-            events: 0,
-        }
-    }
-
-    fn refusal(self, reason: Reason) -> Refusal
-        ensures { result ≡ refusal reason self.events self.used }
+impl Counts {
+    // The refusal for a reason, with the counts so far.
+    pub(crate) fn refusal(&self, reason: Reason) -> Refusal
+        ensures { result ≡ refusal reason self.now.events self.now.used }
     {
         Refusal {
             reason,
@@ -56,167 +38,143 @@ impl Walk {
             bytes: self.used,
         }
     }
+}
 
-    fn refuse(self, reason: Reason) -> Progress
-        ensures { (g : Meaning) (frames : List Frame) (text : List ℕ) → progress_of g frames text result ≡ over (refused reason self.events self.used) }
+impl<'a, B: Grammar> Walk<'a, B> {
+    // A walk that has taken no event yet. Every frame that is lent may be used.
+    pub fn new(grammar: &'a B, text: &'a [u8], frames: &'a mut [Frame]) -> Walk<'a, B>
+        ensures begins { (g : Meaning) → state_of g result ≡ begin g text.now }
+        ensures grammar { result.grammar.now ≡ grammar.now }
+        ensures text { result.text.now ≡ text.now }
+        ensures memory { result.frames.ghost_name ≡ frames.entry.ghost_name }
+        ensures frames { result.frames.now ≡ frames.old }
     {
-        Progress::Over(Err(self.refusal(reason)))
+        Walk {
+            grammar,
+            text,
+            frames,
+            counts: Counts {
+                depth: 0,
+                rules: 0,
+                used: 0,
+                events: 0,
+            },
+        }
+    }
+
+    // The refusal of this walk for a reason, as for a fault of its guide.
+    pub fn refusal(&self, why: Reason) -> Refusal
+        ensures { result ≡ refusal why self.now.counts.events self.now.counts.used }
+    {
+        self.counts.refusal(why)
     }
 
     // The part that is awaited, or None where a leave or the end is. Before any rule is entered, that is the start symbol.
-    fn awaited<B: Grammar>(self, grammar: &B, frames: &[Frame]) -> Option<Part>
-        ensures { result ≡ newest (parts_now (B.Grammar.meaning grammar.now) frames.now self) }
+    fn awaited(&self) -> Option<Part>
+        ensures { result ≡ newest (parts_now (B.Grammar.meaning self.now.grammar.now) self.now) }
     {
-        if self.rules == 0 {
-            return Some(Part::Symbol(grammar.start()));
+        if self.counts.rules == 0 {
+            return Some(Part::Symbol(self.grammar.start()));
         }
-        let frame = top(frames, self.depth)?;
-        grammar.part(frame.rule, frame.next)
+        let frame = top(self.frames, self.counts.depth)?;
+        self.grammar.part(frame.rule, frame.next)
     }
 
-    fn awaited_symbol<B: Grammar>(self, grammar: &B, frames: &[Frame]) -> Option<u16>
-        ensures { result ≡ as_symbol (newest (parts_now (B.Grammar.meaning grammar.now) frames.now self)) }
+    // Whether one event more may come is asked once, in `accept`: asked in each of the three kinds, it would stand three times.
+    fn enter(&mut self, rule: u16) -> Result<(), Reason>
+        requires { self.old.counts.events < 16000 }
+        ensures takes { Takes (B.Grammar.meaning self.old.grammar.now) self.old (Event.Enter rule) result self.new }
+        ensures loans { SameLoans self.old self.new }
     {
-        match self.awaited(grammar, frames)? {
-            Part::Symbol(symbol) => Some(symbol),
-            _ => None,
-        }
-    }
-
-    fn awaited_leaf<B: Grammar>(self, grammar: &B, frames: &[Frame]) -> Option<Part>
-        ensures { result ≡ as_leaf (newest (parts_now (B.Grammar.meaning grammar.now) frames.now self)) }
-    {
-        match self.awaited(grammar, frames)? {
-            Part::Symbol(_) => None,
-            part => Some(part),
-        }
-    }
-
-    fn enter<B: Grammar>(self, grammar: &B, frames: &mut [Frame], rule: u16) -> Progress
-        requires { self.events < 16000 }
-        ensures { (text : List ℕ) → Takes (B.Grammar.meaning grammar.now) text frames.old self (Event.Enter rule) result frames.new }
-    {
-        let Some(symbol) = self.awaited_symbol(grammar, frames) else {
-            return self.refuse(Reason::NotAwaited);
+        let Some(Part::Symbol(symbol)) = self.awaited() else {
+            return Err(Reason::NotAwaited);
         };
-        let Some(left) = grammar.left(rule) else {
-            return self.refuse(Reason::NoSuchRule);
-        };
+        let left = self.grammar.left(rule).ok_or(Reason::NoSuchRule)?;
         if left != symbol {
-            return self.refuse(Reason::OtherSymbol);
+            return Err(Reason::OtherSymbol);
         }
-        advance(frames, self.depth);
-        let mut depth = self.depth;
-        if !push(frames, &mut depth, Frame { rule, next: 0 }) {
-            return self.refuse(Reason::TooDeep);
-        }
-        Progress::Going(Walk {
-            depth,
-            rules: self.rules + 1,
-            used: self.used,
-            events: self.events + 1,
-        })
+        advance(self.frames, self.counts.depth);
+        let counts = &mut self.counts;
+        push(self.frames, &mut counts.depth, Frame { rule, next: 0 }).or(Err(Reason::TooDeep))?;
+        counts.rules += 1;
+        counts.events += 1;
+        Ok(())
     }
 
-    fn byte<B: Grammar>(self, grammar: &B, text: &[u8], frames: &mut [Frame], byte: u8) -> Progress
-        requires { self.events < 16000 }
-        ensures { Takes (B.Grammar.meaning grammar.now) text.now frames.old self (Event.Byte byte) result frames.new }
+    fn byte(&mut self, byte: u8) -> Result<(), Reason>
+        requires { self.old.counts.events < 16000 }
+        ensures takes { Takes (B.Grammar.meaning self.old.grammar.now) self.old (Event.Byte byte) result self.new }
+        ensures loans { SameLoans self.old self.new }
     {
-        let Some(part) = self.awaited_leaf(grammar, frames) else {
-            return self.refuse(Reason::NotAwaited);
+        let part = match self.awaited() {
+            None | Some(Part::Symbol(_)) => return Err(Reason::NotAwaited),
+            Some(part) => part,
         };
         if !part.allows(byte) {
-            return self.refuse(Reason::ByteNotAllowed);
+            return Err(Reason::ByteNotAllowed);
         }
-        if self.used >= text.len() || text[self.used] != byte {
-            return self.refuse(Reason::ByteNotNext);
+        if self.text.get(self.counts.used) != Some(&byte) {
+            return Err(Reason::ByteNotNext);
         }
-        advance(frames, self.depth);
-        Progress::Going(Walk {
-            depth: self.depth,
-            rules: self.rules,
-            used: self.used + 1,
-            events: self.events + 1,
-        })
+        advance(self.frames, self.counts.depth);
+        let counts = &mut self.counts;
+        counts.used += 1;
+        counts.events += 1;
+        Ok(())
     }
 
-    fn leave<B: Grammar>(self, grammar: &B, frames: &[Frame]) -> Progress
-        requires { self.events < 16000 }
-        ensures { (text : List ℕ) → Takes (B.Grammar.meaning grammar.now) text frames.now self Event.Leave result frames.now }
+    fn leave(&mut self) -> Result<(), Reason>
+        requires { self.old.counts.events < 16000 }
+        ensures takes { Takes (B.Grammar.meaning self.old.grammar.now) self.old Event.Leave result self.new }
+        ensures loans { SameLoans self.old self.new }
     {
-        if self.awaited(grammar, frames).is_some() {
-            return self.refuse(Reason::NotAwaited);
+        if self.awaited().is_some() {
+            return Err(Reason::NotAwaited);
         }
-        let mut depth = self.depth;
-        if pop(frames, &mut depth).is_none() {
-            return self.refuse(Reason::NotAwaited);
-        }
-        Progress::Going(Walk {
-            depth,
-            rules: self.rules,
-            used: self.used,
-            events: self.events + 1,
-        })
+        let counts = &mut self.counts;
+        // Lent as `&` in a walk that is written, the frames would count as unknown afterwards.
+        pop(&mut *self.frames, &mut counts.depth).ok_or(Reason::NotAwaited)?;
+        counts.events += 1;
+        Ok(())
     }
 
-    fn event<B: Grammar>(
-        self,
-        grammar: &B,
-        text: &[u8],
-        frames: &mut [Frame],
-        event: Event,
-    ) -> Progress
-        ensures { Steps (B.Grammar.meaning grammar.now) text.now frames.old self (Answer.Next event) result frames.new }
+    fn accept(&mut self, event: Event) -> Result<(), Reason>
+        ensures follows { Follows (B.Grammar.meaning self.old.grammar.now) self.old event result self.new }
+        ensures loans { SameLoans self.old self.new }
     {
-        if self.events >= MOST_EVENTS {
-            return self.refuse(Reason::TooManyEvents);
+        if self.counts.events >= MOST_EVENTS {
+            return Err(Reason::TooManyEvents);
         }
         match event {
-            Event::Enter(rule) => self.enter(grammar, frames, rule),
-            Event::Byte(byte) => self.byte(grammar, text, frames, byte),
-            Event::Leave => self.leave(grammar, frames),
+            Event::Enter(rule) => self.enter(rule),
+            Event::Byte(byte) => self.byte(byte),
+            Event::Leave => self.leave(),
         }
     }
 
-    // The verdict at the guide's finish. The end is awaited where the root was entered and no node is open.
-    fn finish<B: Grammar>(
-        self,
-        grammar: &B,
-        text: &[u8],
-        frames: &[Frame],
-        finish: Finish,
-    ) -> Verdict
-        ensures { result ≡ at_finish (state_of (B.Grammar.meaning grammar.now) frames.now text.now self) finish }
+    // Takes one event of the guide. A refusal ends the walk: what it awaits afterwards is left open.
+    pub fn take(&mut self, event: Event) -> Result<(), Refusal>
+        ensures steps { Steps (B.Grammar.meaning self.old.grammar.now) self.old event result self.new }
+        ensures loans { SameLoans self.old self.new }
     {
-        if let Finish::Fault { defect, place } = finish {
-            return Err(self.refusal(Reason::GuideFault { defect, place }));
+        self.accept(event)
+            .map_err(|reason| self.counts.refusal(reason))
+    }
+
+    // The verdict at the guide's end. The end is awaited where the root was entered and no node is open.
+    pub fn finish(&self) -> Verdict
+        ensures { result ≡ at_finish (state_of (B.Grammar.meaning self.now.grammar.now) self.now) End }
+    {
+        if self.counts.rules == 0 || top(self.frames, self.counts.depth).is_some() {
+            return Err(self.counts.refusal(Reason::NotAwaited));
         }
-        if self.rules == 0 || top(frames, self.depth).is_some() {
-            return Err(self.refusal(Reason::NotAwaited));
-        }
-        if self.used < text.len() {
-            return Err(self.refusal(Reason::TextLeft));
+        if self.counts.used < self.text.len() {
+            return Err(self.counts.refusal(Reason::TextLeft));
         }
         Ok(Accepted {
-            rules: self.rules,
-            bytes: self.used,
-            steps: self.events + 1,
+            rules: self.counts.rules,
+            bytes: self.counts.used,
+            steps: self.counts.events + 1,
         })
-    }
-
-    // Takes one answer of the guide. Every frame that is lent may be used.
-    pub fn take<B: Grammar>(
-        self,
-        grammar: &B,
-        text: &[u8],
-        frames: &mut [Frame],
-        answer: Answer,
-    ) -> Progress
-        ensures { Steps (B.Grammar.meaning grammar.now) text.now frames.old self answer result frames.new }
-    {
-        match answer {
-            Answer::Next(event) => self.event(grammar, text, frames, event),
-            Answer::Done(finish) => Progress::Over(self.finish(grammar, text, frames, finish)),
-        }
     }
 }

@@ -1,27 +1,43 @@
-use Rattle.std.proofs.Common.{sym, ap, ◌∙◌}
-use Rattle.fekhtovi.specs.Check.{guide_told}
-use Rattle.fekhtovi.specs.Pairs.{pairs_in}
-use Rattle.fekhtovi.proofs.Checked.{all_yes}
-use Rattle.fekhtovi.proofs.Chosen.{as_chosen}
-use Rattle.fekhtovi.proofs.Loaded.{lent, same_load, answered_so, held_so}
+use Rattle.std.proofs.Common.{rules, min, map, ap, ◌∙◌}
+use Rattle.std.proofs.lemmas.Iterator.{YieldsList-from_slice, YieldsList-from_map}
+use Rattle.std.proofs.lemmas.Iterator.Consumers.{YieldsList-at}
+use Rattle.fekhtovi.specs.declared.refused.Refused.TheVariants.{Call as RefusedCall}
+use Rattle.fekhtovi.specs.Bars.{without_rules}
+use Rattle.fekhtovi.specs.Check.{with_blanks}
+use Rattle.fekhtovi.specs.Pairs.{pair_in}
+use Rattle.fekhtovi.proofs.Asked.{of_list, mapped, bars_refused, loaded_so, held_so, kept_so, lent, same_load}
 use Rattle.fekhtovi.proofs.replay.load.Goals as goal
+
+pub returns-in_err-chosen-clause-answers : goal.returns-in_err-chosen-clause-answers
+returns-in_err-chosen-clause-answers g c =
+    let f = c.args.call.fields in
+    let from = YieldsList-at c.map-bars.ensures.source (YieldsList-from_slice f.bars.now c.iter.ensures.rest) in
+    bars_refused c.args.call.head.form f.table.now (map pair_in f.bars.now) _ _ _ c.in_ok-base.ensures.answer
+    (of_list _ _ c.in_err-chosen.ensures.answer (YieldsList-from_map _ pair_in from c.map-bars.ensures.closure (λ x r q k. search rules)))
+    c.from_residual-in_err-chosen.ensures.1
+
+pub returns-in_err-chosen-clause-texts : goal.returns-in_err-chosen-clause-texts
+returns-in_err-chosen-clause-texts g c =
+    let f = c.args.call.fields in
+    let from = YieldsList-at c.map-bars.ensures.source (YieldsList-from_slice f.bars.now c.iter.ensures.rest) in
+    kept_so c.args.call.head.form f.table.now (map pair_in f.bars.now) _ _ _ c.in_ok-base.ensures.answer
+    (of_list _ _ c.in_err-chosen.ensures.answer (YieldsList-from_map _ pair_in from c.map-bars.ensures.closure (λ x r q k. search rules)))
 
 pub returns : goal.returns
 returns g c =
     let a = c.args in
+    let f = a.call.fields in
+    let h = a.call.head in
     let blocks = g.M.Memory.block_count in
     let held = g.M.Memory.texts a.memory.now in
-    let f = a.fields in
-    let known = sym c.numbered.ensures ∙ c.in-Some.is in
-    let none = all_yes a.head.form c.in-Some.form f.table.now (pairs_in f.bars.now) _ known
-    (sym c.open-opened.ensures.answer ∙ c.in_default-opened.is) (sym c.bar_pairs.ensures.answer ∙ c.if-not-bar_pairs.false) in
-    let meant = as_chosen f.table.now a.head.blanks (pairs_in f.bars.now) c.new-grammar.result.set.flags c.bar_pairs.new.grammar.set.flags
-    c.open-opened.result.0 c.new.result c.bar_pairs.new.grammar.below
-    c.open-opened.ensures.grammar c.new.ensures (c.bar_pairs.ensures.below ∙ c.new-grammar.ensures.below) c.new-grammar.ensures.none
-    (c.bar_pairs.ensures.barred c.if-not-bar_pairs.false) in
-    let tells = c.new-guide.ensures ∙ sym (ap (λ x. guide_told x f.guide.now) known) in
-    let same = same_load a.number f.text.now _ _ _ _ _ _ meant tells (lent c.min-lent.result a.head.frames a.frames.now c.requires c.min-lent.ensures) in
+    let from = YieldsList-at c.map-bars.ensures.source (YieldsList-from_slice f.bars.now c.iter.ensures.rest) in
+    let bars = map pair_in f.bars.now in
+    let can = of_list _ bars c.in_ok-chosen.ensures.answer (YieldsList-from_map _ pair_in from c.map-bars.ensures.closure (λ x r q k. search rules)) in
+    let barred = of_list _ bars c.in_ok-chosen.ensures.barred (YieldsList-from_map _ pair_in from c.map-bars.ensures.closure (λ x r q k. search rules)) in
+    let means = barred ∙ ap (without_rules bars) (c.new.ensures ∙ ap (with_blanks h.blanks) c.in_ok-base.ensures.base) in
+    let same = same_load a.number f.text.now _ _ _ _ _ _ means c.in_ok-base.ensures.guide (lent c.min-count.result h.frames a.frames.now (search rules) (c.min-count.ensures ∙ ap (λ n. min n 1024) c.from.ensures)) in
     record {
-      answers = answered_so blocks held _ _ _ _ _ none same c.perform.ensures.sheet.answers c.of_answer.ensures;
-      texts = held_so blocks held _ _ _ _ none same c.perform.ensures.sheet.texts;
+      answers = loaded_so h.form f.table.now bars blocks held _ _ _ _ c.in_ok-base.ensures.answer can same c.perform.ensures.performed.sheet.answers
+          (mapped RefusedCall _ _ c.map_err.ensures.cases);
+      texts = held_so h.form f.table.now bars blocks held _ _ _ c.in_ok-base.ensures.answer can same c.perform.ensures.performed.sheet.texts;
     }

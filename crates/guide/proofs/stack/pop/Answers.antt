@@ -1,9 +1,9 @@
-use Rattle.std.proofs.Common.{sym, refl, ◌∙◌, arith}
-use Rattle.guide.proofs.Stacks.{held_none, held_top}
+use Rattle.std.proofs.Common.{arith}
+use Rattle.guide.proofs.Stacks.{some_held, held_rest}
 use Rattle.guide.proofs.stack.pop.Goals as goal
 
-pub returns-then-count-eq0 : goal.returns-then-count-eq0
-returns-then-count-eq0 g c = (held_none _ _ (sym c.min-count.ensures ∙ c.if-count-eq0.true), refl)
+pub overflow_sub-len : goal.overflow_sub-len
+overflow_sub-len g c = let h = some_held _ _ _ c.in_ok-newest.ensures in omega (arith, c.min.ensures)
 
 pub returns : goal.returns
-returns g c = (omega arith, held_top _ _ _ _ c.min-count.ensures c.if-count-eq0.false c.index-slots-count.is)
+returns g c = held_rest _ _ _ _ c.min.ensures c.in_ok-newest.ensures

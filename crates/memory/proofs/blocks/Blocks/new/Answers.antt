@@ -10,7 +10,7 @@ invariant_of-result c = record {
   sized = refl;
   unnumbered = refl;
   noted = λ n. simp (none_noted 121 n);
-  owns = λ n h. unused_owned 512 n h ∙ sym (simp (none_noted 121 n));
+  owns = λ n. unused_owned 512 n ∙ sym (simp (none_noted 121 n));
   rest = refl;
 }
 

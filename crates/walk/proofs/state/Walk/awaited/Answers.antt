@@ -4,4 +4,4 @@ use Rattle.walk.proofs.state.Walk.awaited.Goals as goal
 
 pub returns : goal.returns
 returns g c =
-    c.part.ensures ∙ sym (awaited_inside (g.B.Grammar.meaning c.args.grammar.now) _ _ _ c.if-self-eq0.false c.in_ok-frame.ensures)
+    c.part.ensures ∙ sym (awaited_inside (g.B.Grammar.meaning c.args.self.now.grammar.now) _ _ _ c.if-self-eq0.false c.in_ok-frame.ensures)
