@@ -60,9 +60,13 @@ answer_text (Ok (say.Fetched k)) free = fetched_text k free
 answer_text (Ok (say.Free k)) free = free_text k
 answer_text (Err f) free = refusal_text f
 
--- an input that is too long is refused by 16, with zeros
+-- the number by which an input that is too long is refused
+abbrev pub too_long_number : ℕ
+too_long_number = 16
+
+-- it is refused with zeros
 abbrev pub too_long_text : List ℕ
-too_long_text = no_text 16 0 0
+too_long_text = no_text too_long_number 0 0
 
 -- byte 10 ends a line
 abbrev pub ended : List ℕ → List ℕ

@@ -1,6 +1,6 @@
 // The line that is printed for an answer.
 ghost use Rattle.std.specs.Prelude.{◌≡◌, Some, IfOk, string_bytes};
-ghost use Rattle.report.specs.Line.{no_text, refusal_text, answer_text, too_long_text, answer_line, line_of};
+ghost use Rattle.report.specs.Line.{no_text, refusal_text, answer_text, too_long_number, too_long_text, answer_line, line_of};
 
 use cues::answers::{Answer, Refusal};
 use std::alloc::{AllocError, Global};
@@ -24,7 +24,7 @@ pub type Outcome = Result<Answered, InputTooLong>;
 impl InputTooLong {
     // The number that the refusal is reported with.
     pub fn number(self) -> u8
-        ensures { result ≡ 16 }
+        ensures { result ≡ too_long_number }
     {
         16
     }
