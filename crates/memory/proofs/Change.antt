@@ -1,11 +1,11 @@
 -- A change of what is under one number keeps the memory's invariant, and changes no other text.
 use Rattle.std.proofs.Common.{◌≡◌, ℕ, ◌+◌, ◌<◌, ◌≤◌, eqb, List, length, get_or, take, set, Some, None, Option, sym, refl, ap, ◌∙◌, inl, inr, arith}
-use Rattle.std.specs.Option.{option_map}
+use Rattle.std.specs.Option.{option_map, unwrap_or}
 use Rattle.std.specs.Map.{update}
 use Rattle.std.proofs.lemmas.List.{get_or-set_same, get_or-set_other, length-set}
 use Rattle.std.proofs.lemmas.Bool.{cases_eq}
 use Rattle.std.proofs.lemmas.Map.{update_here, update_apart}
-use Rattle.memory.specs.Texts.{Texts, need}
+use Rattle.memory.specs.Texts.{Texts, blocks_for, need}
 use Rattle.memory.specs.Blocks.{gathered, owned, unused, released, texts_in, Noted, Owns, Rest, Placed}
 use Rattle.memory.specs.declared.blocks.Blocks.{Blocks}
 use Rattle.memory.proofs.Sums.{sum_to_change}
@@ -77,12 +77,19 @@ module _ {s : Blocks} {n : ℕ} {t : Option (List ℕ)} {l : Option ℕ} {os : L
     rest = rest_after;
   }
 
+  -- the same, where the place of n's length goes by another name
+  pub fit_at : (i : ℕ) → i ≡ n → Fit bs os (set s.lengths i l)
+  fit_at i e = rw e fit_after
+
   pub text_after : (m : ℕ) → texts_in bs os lengths m ≡ update eqb (texts_of s) n t m
   text_after m =
       elim (cases_eq m n) [
         | inl e ↦ rw e (text_here ∙ sym (update_here (texts_of s) n t))
         | inr ne ↦ text_there m ne ∙ sym (update_apart (texts_of s) n t m ne)
       ]
+
+  pub text_at : (i : ℕ) → i ≡ n → (m : ℕ) → texts_in bs os (set s.lengths i l) m ≡ update eqb (texts_of s) n t m
+  text_at i e = rw e text_after
 
 -- n's text is struck out
 pub struck : (s : Blocks) (n : ℕ) → 0 < n → n ≤ 120 → (os : List (Option ℕ)) → os ≡ released n s.owners → Changed s n None None os s.blocks
@@ -95,6 +102,19 @@ struck s n numbered low os e =
       own = released_own n s.owners;
       balance = let a = released_unused n s.owners in let b = s.owns n in omega arith;
     }
+
+-- what a text needs follows from the length that is noted for it, 0 where there is none
+need_noted : (o : Option (List ℕ)) (l : Option ℕ) → option_map (λ (t : List ℕ). length t) o ≡ l → need o ≡ blocks_for (unwrap_or l 0)
+need_noted None l e = ap (λ (x : Option ℕ). blocks_for (unwrap_or x 0)) e
+need_noted (Some t) l e = ap (λ (x : Option ℕ). blocks_for (unwrap_or x 0)) e
+
+-- so many blocks come back, where the place of n's length goes by another name
+pub given_back : (s : Blocks) (n i : ℕ) → i ≡ n → unused (released n s.owners) ≡ s.unused + blocks_for (unwrap_or (get_or s.lengths i None) 0)
+given_back s n i e =
+    let a = released_unused n s.owners in
+    let b = s.owns n in
+    let d = need_noted _ _ (s.noted n) in
+    rw e (omega (arith, s.counted))
 
 -- n had no text, and the text t is placed for it
 pub stored : (s : Blocks) (n : ℕ) → texts_of s n ≡ None → 0 < n → n ≤ 120 → (t : List ℕ) (os : List (Option ℕ)) (bs : List (List ℕ))

@@ -47,6 +47,10 @@ all_blocks = 512
 abbrev pub Rest : List (List ℕ) → List (Option ℕ) → List (Option ℕ) → Type 0
 Rest blocks owners lengths = needs (texts_in blocks owners lengths) + unused owners ≡ all_blocks
 
+-- so many blocks are unused
+abbrev pub Counted : ℕ → List (Option ℕ) → Type 0
+Counted count owners = count ≡ unused owners
+
 -- from block i on none is unused
 abbrev pub NoneUnusedFrom : ℕ → List (Option ℕ) → Type 0
 NoneUnusedFrom i owners = (k : ℕ) → i ≤ k → k < length owners → is_none (slice_index_or owners k None) ≡ false

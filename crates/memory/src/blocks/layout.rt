@@ -4,15 +4,7 @@ ghost use Rattle.memory.specs.Texts.{blocks_for};
 ghost use Rattle.memory.specs.Blocks.{gathered, owned, unused, released, IsLastUnused, Placed};
 
 use crate::BLOCK_BYTES;
-use crate::blocks::BLOCKS;
 use crate::number::Number;
-
-// Counts the blocks without an owner.
-pub(crate) fn count_unused(owners: &[Option<Number>; BLOCKS]) -> u16
-    ensures { result ≡ unused owners.now }
-{
-    owners.iter().filter(|owner| owner.is_none()).count() as u16
-}
 
 // Gives back the blocks of a number.
 pub(crate) fn release(owners: &mut [Option<Number>], number: Number)

@@ -12,6 +12,7 @@ invariant_of-result c = record {
   noted = λ n. simp (none_noted 121 n);
   owns = λ n. unused_owned 512 n ∙ sym (simp (none_noted 121 n));
   rest = refl;
+  counted = refl;
 }
 
 pub returns : goal.returns
