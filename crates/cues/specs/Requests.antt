@@ -31,10 +31,11 @@ call_of meaning told r l = asked r l.text.now (meaning l.grammar.now) (told l.gu
 abbrev pub state_of : {B G : Type 0} → Texts → (G → Told) → Lent B G → State
 state_of held told l = record { held = held; buffer = l.buffer.now; told = told l.guide.now }
 
--- the same parts are lent, whatever was written into them
+-- the same parts are lent, whatever was written into them, and as many frames
 pub record SameParts {B G : Type 0} (l l' : Lent B G) : Type 0 where
   pub text : l'.text ≡ l.text
   pub grammar : l'.grammar ≡ l.grammar
   pub guide : l'.guide.ghost_name ≡ l.guide.ghost_name
   pub frames : l'.frames.ghost_name ≡ l.frames.ghost_name
   pub buffer : l'.buffer.ghost_name ≡ l.buffer.ghost_name
+  pub entries : length l'.frames.now ≡ length l.frames.now
