@@ -3,7 +3,8 @@ use Rattle.std.specs.Prelude.{◌≡◌, ℕ, cond, List, [], ◌∷◌, length,
 use Rattle.std.specs.Result.{result_and, result_map_both}
 use Rattle.guide.specs.Told.{Told, after}
 use Rattle.memory.specs.declared.Refusal.{Refusal as MemoryRefusal}
-use Rattle.memory.specs.Texts.{Texts, no_texts, holding, without, free as free_in, is_number, may_store, may_strike, may_copy, copied}
+use Rattle.memory.specs.Texts.{Texts, no_texts, holding, without, free as free_in, is_number, ask, may_store, may_strike, may_copy, copied}
+use Rattle.memory.specs.declared.Refusal.TheVariants.{NumberOutside}
 use Rattle.tree.specs.declared.verdict.Accepted.{Accepted}
 use Rattle.tree.specs.Verdict.{taken}
 use Rattle.cues.specs.declared.answers.Answer.{Answer}
@@ -18,11 +19,12 @@ before_load blocks s l = may_store blocks s l.number (length l.text)
 abbrev pub on_load : ℕ → Texts → Load → Result Accepted Refusal
 on_load blocks s l = result_and (by_memory (before_load blocks s l)) (checked (verdict_on l))
 
+-- a clear and a fetch ask for the number first, whatever the memory holds
 abbrev pub on_clear : Texts → ℕ → Result ℕ Refusal
-on_clear s n = result_and (by_memory (may_strike s n)) (Ok n)
+on_clear s n = result_and (by_memory (ask (is_number n) NumberOutside (may_strike s n))) (Ok n)
 
 abbrev pub on_fetch : Texts → ℕ → ℕ → Result ℕ Refusal
-on_fetch s n room = by_memory (may_copy s n room)
+on_fetch s n room = by_memory (ask (is_number n) NumberOutside (may_copy s n room))
 
 -- one type of answer for every call
 abbrev pub answered : {A : Type 0} → (A → Answer) → Result A Refusal → Reply

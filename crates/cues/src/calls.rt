@@ -1,13 +1,14 @@
 // Load, clear, fetch and free.
-ghost use Rattle.std.specs.Prelude.{◌≡◌, length};
-ghost use Rattle.memory.specs.Texts.{free as free_in};
+ghost use Rattle.std.specs.Prelude.{◌≡◌, length, Ok};
+ghost use Rattle.memory.specs.Texts.{free as free_in, is_number, ask};
+ghost use Rattle.memory.specs.declared.Refusal.TheVariants.{NumberOutside};
 ghost use Rattle.cues.specs.Calls.{loading};
 ghost use Rattle.cues.specs.Sheet.{Loads, Clears, Fetches};
 
 use crate::answers::Refusal;
 use grammar::Grammar;
 use guide::Guide;
-use memory::Memory;
+use memory::{Memory, is_number};
 use tree::verdict::Accepted;
 use walk::check;
 use walk::state::Frame;
@@ -31,10 +32,21 @@ pub fn load<M: Memory, B: Grammar, G: Guide>(
     Ok(accepted)
 }
 
+// The first question of a clear and of a fetch: a memory may hold texts under other numbers too.
+fn ask_number(number: u16) -> Result<(), memory::Refusal>
+    ensures { result ≡ ask (is_number number) NumberOutside (Ok tt) }
+{
+    if !is_number(number) {
+        return Err(memory::Refusal::NumberOutside);
+    }
+    Ok(())
+}
+
 // Strikes out the text under the number, and answers the number.
 pub fn clear<M: Memory>(memory: &mut M, number: u16) -> Result<u16, Refusal>
     ensures { Clears M.Memory.block_count (M.Memory.texts memory.old) number result (M.Memory.texts memory.new) }
 {
+    ask_number(number)?;
     memory.strike(number)?;
     Ok(number)
 }
@@ -43,6 +55,7 @@ pub fn clear<M: Memory>(memory: &mut M, number: u16) -> Result<u16, Refusal>
 pub fn fetch<M: Memory>(memory: &M, number: u16, buffer: &mut [u8]) -> Result<usize, Refusal>
     ensures { Fetches (M.Memory.texts memory.now) number buffer.old result buffer.new }
 {
+    ask_number(number)?;
     Ok(memory.copy_out(number, buffer)?)
 }
 

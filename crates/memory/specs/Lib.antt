@@ -1,4 +1,3 @@
 pub mod Texts
 pub mod Blocks
-pub mod Numbered
 pub mod Laws

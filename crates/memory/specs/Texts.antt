@@ -76,18 +76,21 @@ may_store blocks s n bytes =
     (ask (nat_le bytes longest_text) TextTooLong
     (ask (nat_le (blocks_for bytes) (free blocks s)) NoRoom (Ok tt))))
 
--- may the text under n be struck out?
+-- the refusal where nothing is held under n
+abbrev pub none_held : {A : Type 0} → ℕ → Result A Refusal
+none_held n = ask (is_number n) NumberOutside (Err NotHeld)
+
+-- may the text under n be struck out? What is held is asked first, so a memory may hold a text under another number too
 abbrev pub may_strike : Texts → ℕ → Result Unit Refusal
-may_strike s n = ask (is_number n) NumberOutside (ask (is_some (s n)) NotHeld (Ok tt))
+may_strike s n = cond (is_some (s n)) (Ok tt) (none_held n)
 
--- how many bytes of what is under one number may be copied to a buffer of so many?
-abbrev pub may_copy_text : Option (List ℕ) → ℕ → Result ℕ Refusal
-may_copy_text None room = Err NotHeld
-may_copy_text (Some t) room = ask (nat_le (length t) room) BufferTooShort (Ok (length t))
+-- how many bytes of what is under n may be copied to a buffer of so many?
+abbrev pub may_copy_text : ℕ → Option (List ℕ) → ℕ → Result ℕ Refusal
+may_copy_text n None room = none_held n
+may_copy_text n (Some t) room = ask (nat_le (length t) room) BufferTooShort (Ok (length t))
 
--- the same of what is under n
 abbrev pub may_copy : Texts → ℕ → ℕ → Result ℕ Refusal
-may_copy s n room = ask (is_number n) NumberOutside (may_copy_text (s n) room)
+may_copy s n room = may_copy_text n (s n) room
 
 -- can t be stored under n: is n a number without a text, t not too long, and are there as many blocks left as it needs?
 abbrev pub storable : ℕ → Texts → ℕ → List ℕ → Bool

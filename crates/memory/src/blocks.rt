@@ -1,10 +1,9 @@
 // A memory of 512 blocks. A text lies in as many of them as it needs, wherever they are.
-ghost use Rattle.std.specs.Prelude.{◌≡◌, ◌≤◌, length, Some, None, slice_index_or};
+ghost use Rattle.std.specs.Prelude.{◌≡◌, ℕ, ◌≤◌, false, length, Some, None, slice_index_or};
 ghost use Rattle.std.proofs.Common.{arith};
 ghost use Rattle.std.specs.Option.{option_map, ok_or};
-ghost use Rattle.memory.specs.Texts.{blocks_for, longest_text, no_texts, holding, without, needs, free};
+ghost use Rattle.memory.specs.Texts.{blocks_for, longest_text, no_texts, holding, without, needs, free, is_number};
 ghost use Rattle.memory.specs.Blocks.{all_blocks, texts_in, Noted, Owns, Rest, Counted};
-ghost use Rattle.memory.specs.Numbered.{none_outside};
 
 use crate::number::Number;
 use crate::{BLOCK_BYTES, Memory, Refusal, blocks_for};
@@ -91,8 +90,6 @@ impl Memory for Blocks {
 
     ghost bounds = { λ s. omega (arith, s.rest) };
 
-    ghost numbered = { λ s. none_outside s.blocks s.owners s.lengths s.sized s.unnumbered };
-
     fn length_of(&self, number: u16) -> Option<u16> {
         self.lengths.get(usize::from(number)).copied().flatten()
     }
@@ -125,3 +122,8 @@ impl Memory for Blocks {
         Ok(length)
     }
 }
+
+// Texts are held under numbers for texts only.
+pub fn only_numbers_have_texts(memory: &Blocks)
+    ensures { (n : ℕ) → is_number n ≡ false → ⟦<Blocks as Memory>⟧.texts memory.now n ≡ None }
+{}

@@ -71,9 +71,6 @@ pub trait Memory {
     // It never holds more than its blocks have room for.
     ghost bounds: { (x : Self) → needs (texts x) ≤ block_count };
 
-    // It holds texts under numbers for texts only.
-    ghost numbered: { (x : Self) (n : ℕ) → is_number n ≡ false → texts x n ≡ None };
-
     // The length of the text under a number.
     fn length_of(&self, number: u16) -> Option<u16>
         ensures { result ≡ option_map (λ t. length t) (texts self.now number) };
