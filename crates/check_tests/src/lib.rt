@@ -4,6 +4,8 @@
 #[cfg(test)]
 mod calls;
 #[cfg(test)]
+mod kept_walk;
+#[cfg(test)]
 mod long_cues;
 #[cfg(test)]
 mod other_forms;

@@ -8,11 +8,11 @@ use Rattle.tree.specs.declared.verdict.Reason.TheVariants.{TextLeft}
 use Rattle.tree.specs.Verdict.{refused}
 use Rattle.tree.specs.Check.{going, entered, read, at_end}
 use Rattle.walk.specs.declared.state.Frame.{Frame}
-use Rattle.walk.specs.declared.state.Walk.{Walk}
+use Rattle.walk.specs.declared.state.LentWalk.{LentWalk}
 use Rattle.walk.specs.Rows.{parts_of, rows, all_rows, first_row, other_rows, parts_now, older_now, state_of, advanced, NextFits}
 use Rattle.walk.proofs.Opened.{rest, rows_advanced, older_length, rows_inside, next_fits}
 
-module _ {B : Type 0} (g : Meaning) (w : Walk B) where
+module _ {B : Type 0} (g : Meaning) (w : LentWalk B) where
   -- before any rule is entered no node is open
   no_node : w.counts.rules ≡ 0 → held w.frames.now w.counts.depth ≡ []
   no_node e = let o = w.counts.opened in held_none w.frames.now w.counts.depth (omega arith)

@@ -10,7 +10,7 @@ ghost use Rattle.walk.specs.Rows.{state_of};
 
 use grammar::Grammar;
 use guide::Guide;
-use state::{Frame, Walk};
+use state::{Frame, LentWalk};
 use tree::verdict::{Reason, Verdict};
 
 pub mod state;
@@ -29,7 +29,7 @@ fn follow<B: Grammar, G: Guide>(
     ensures verdict { result ≡ verdict (B.Grammar.meaning grammar.now) (length frames.old) text.now (G.Guide.told guide.old) }
     ensures behind_last { G.Guide.told guide.new ≡ after (taken result) (G.Guide.told guide.old) }
 {
-    let mut walk = Walk::new(grammar, text, frames);
+    let mut walk = LentWalk::new(grammar, text, frames);
     while let Some(event) = guide
         .next()
         .map_err(|fault| walk.counts.refusal(Reason::GuideFault(fault)))?

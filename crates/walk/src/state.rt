@@ -1,6 +1,7 @@
-// Where a walk stands between two events.
+// Where a walk stands between two answers.
 ghost use Rattle.std.specs.Prelude.{◌≤◌};
 
+pub mod kept;
 pub mod turn;
 
 // An open node: its rule, and the number of the part that is awaited next.
@@ -16,9 +17,10 @@ impl Frame {
     pub const BLANK: Frame = Frame { rule: 0, next: 0 };
 }
 
-// How many nodes are open, and the rules entered, the text bytes used and the events accepted so far.
+// How many nodes are open, and the rules entered, the text bytes used and the events accepted so far. The frames of the open nodes
+// are kept in memory that the caller lends, in the same slots from one answer to the next.
 #[derive(Clone, Copy)]
-pub(crate) struct Counts {
+pub struct Walk {
     depth: usize,
     rules: u32,
     used: usize,
@@ -29,12 +31,11 @@ pub(crate) struct Counts {
     ghost few: { events ≤ 16000 },
 }
 
-// A walk over a text by a grammar. The frames of the open nodes are kept in memory that the caller lends, in the same slots from one
-// event to the next.
+// A walk that holds what it is lent, for as long as it lasts: a grammar, a text and the frames.
 #[derive(Drop)]
-pub struct Walk<'a, B> {
+pub struct LentWalk<'a, B> {
     grammar: &'a B,
     text: &'a [u8],
     frames: &'a mut [Frame],
-    pub(crate) counts: Counts,
+    pub(crate) counts: Walk,
 }

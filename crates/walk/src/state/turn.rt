@@ -7,7 +7,7 @@ ghost use Rattle.tree.specs.Check.{begin, at_finish};
 ghost use Rattle.tree.specs.Verdict.{refusal};
 ghost use Rattle.walk.specs.Rows.{parts_now, state_of, advanced, NextFits, Takes, Follows, Steps, SameLoans};
 
-use super::{Counts, Frame, Walk};
+use super::{Frame, LentWalk, Walk};
 use grammar::{Grammar, Part};
 use guide::Event;
 use guide::stack::{pop, push, top};
@@ -27,39 +27,16 @@ fn advance(frames: &mut [Frame], mut depth: usize)
     }
 }
 
-impl Counts {
-    // The refusal for a reason, with the counts so far.
-    pub(crate) fn refusal(&self, reason: Reason) -> Refusal
-        ensures { result ≡ refusal reason self.now.events self.now.used }
-    {
-        Refusal {
-            reason,
-            events: self.events,
-            bytes: self.used,
-        }
-    }
-}
-
-impl<'a, B: Grammar> Walk<'a, B> {
+impl<'a, B: Grammar> LentWalk<'a, B> {
     // A walk that has taken no event yet. Every frame that is lent may be used.
-    pub fn new(grammar: &'a B, text: &'a [u8], frames: &'a mut [Frame]) -> Walk<'a, B>
+    pub fn new(grammar: &'a B, text: &'a [u8], frames: &'a mut [Frame]) -> LentWalk<'a, B>
         ensures begins { (g : Meaning) → state_of g result ≡ begin g text.now }
         ensures grammar { result.grammar.now ≡ grammar.now }
         ensures text { result.text.now ≡ text.now }
         ensures memory { result.frames.ghost_name ≡ frames.entry.ghost_name }
         ensures frames { result.frames.now ≡ frames.old }
     {
-        Walk {
-            grammar,
-            text,
-            frames,
-            counts: Counts {
-                depth: 0,
-                rules: 0,
-                used: 0,
-                events: 0,
-            },
-        }
+        Walk::new().lent(grammar, text, frames)
     }
 
     // The refusal of this walk for a reason, as for a fault of its guide.

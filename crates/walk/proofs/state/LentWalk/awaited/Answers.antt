@@ -1,6 +1,6 @@
 use Rattle.std.proofs.Common.{sym, ◌∙◌}
 use Rattle.walk.proofs.Opened.{awaited_inside}
-use Rattle.walk.proofs.state.Walk.awaited.Goals as goal
+use Rattle.walk.proofs.state.LentWalk.awaited.Goals as goal
 
 pub returns : goal.returns
 returns g c =

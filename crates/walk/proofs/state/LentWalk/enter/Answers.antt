@@ -2,7 +2,7 @@ use Rattle.std.proofs.Common.{◌≡◌, Err, length, ◌∙◌, rules, arith}
 use Rattle.walk.specs.Rows.{parts_now, state_of}
 use Rattle.walk.proofs.Opened.{was_pushed, was_full, enter_deep, enter_on}
 use Rattle.walk.proofs.Turns.{open_nodes, awaited_fits, entered_state}
-use Rattle.walk.proofs.state.Walk.enter.Goals as goal
+use Rattle.walk.proofs.state.LentWalk.enter.Goals as goal
 
 pub advance-requires : goal.advance-requires
 advance-requires g c =

@@ -3,8 +3,8 @@ use Rattle.guide.specs.Stack.{held, newest}
 use Rattle.walk.specs.Rows.{state_of}
 use Rattle.walk.proofs.Opened.{is_mapped, end_early, end_awaited}
 use Rattle.walk.proofs.Turns.{text_left}
-use Rattle.walk.proofs.state.Walk.finish.Goals as goal
-use Rattle.walk.proofs.state.Walk.finish.Goals.{then-self-eq0-via-then-self-eq0, then-self-eq0-via-else-self-eq0+then-is_some}
+use Rattle.walk.proofs.state.LentWalk.finish.Goals as goal
+use Rattle.walk.proofs.state.LentWalk.finish.Goals.{then-self-eq0-via-then-self-eq0, then-self-eq0-via-else-self-eq0+then-is_some}
 
 pub returns-then-self-eq0 : goal.returns-then-self-eq0
 returns-then-self-eq0 g c =

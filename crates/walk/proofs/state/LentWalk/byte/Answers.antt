@@ -2,7 +2,7 @@ use Rattle.std.proofs.Common.{◌∙◌}
 use Rattle.walk.specs.Rows.{parts_now, state_of}
 use Rattle.walk.proofs.Opened.{leaf_inside, next_is, byte_on}
 use Rattle.walk.proofs.Turns.{read_state}
-use Rattle.walk.proofs.state.Walk.byte.Goals as goal
+use Rattle.walk.proofs.state.LentWalk.byte.Goals as goal
 
 pub returns-clause-takes : goal.returns-clause-takes
 returns-clause-takes g c =

@@ -1,7 +1,7 @@
 use Rattle.std.proofs.Common.{is_some, sym, ap, ◌∙◌}
 use Rattle.walk.specs.Rows.{state_of}
 use Rattle.walk.proofs.Opened.{leave_on, popped}
-use Rattle.walk.proofs.state.Walk.leave.Goals as goal
+use Rattle.walk.proofs.state.LentWalk.leave.Goals as goal
 
 pub returns-clause-takes : goal.returns-clause-takes
 returns-clause-takes g c =
