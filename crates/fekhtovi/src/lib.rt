@@ -8,9 +8,10 @@ ghost use Rattle.fekhtovi.specs.Check.{check_result, check_answer};
 ghost use Rattle.fekhtovi.specs.Replay.{Replayed};
 
 use answer::FekhtoviAnswer;
-use bars::without;
+use bars::bar_all;
 use chosen::opened;
 use grammar::Grammar;
+use grammar::barred::Barred;
 use grammar::blanks::Blanks;
 use grammar::either::Either;
 use guide::Guide;
@@ -57,11 +58,13 @@ fn checked(
 ) -> Result<Accepted, Refused>
     ensures { result ≡ check_result table.now blanks bars.now text.now form guide.now (length frames.old) }
 {
-    let (base, mut guide) = opened(form, guide, table)?;
+    let (base, form) = opened(form, table)?;
+    let mut guide = Written::new(form, guide);
     if blanks == 0 && bars.is_empty() {
         return check_plain(&base, &mut guide, text, frames).map_err(Refused::from);
     }
-    let chosen = without(Blanks::new(base, blanks != 0), bars.iter().copied())?;
+    let mut chosen = Barred::new(Blanks::new(base, blanks != 0));
+    bar_all(&mut chosen, bars.iter().copied())?;
     check(&chosen, &mut guide, text, frames).map_err(Refused::from)
 }
 

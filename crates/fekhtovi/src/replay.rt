@@ -8,17 +8,20 @@ ghost use Rattle.fekhtovi.specs.Replay.{handing, may_load, call_in, result_of, a
 ghost use Rattle.fekhtovi.specs.Script.{scripted_in};
 
 use crate::answer::FekhtoviAnswer;
-use crate::bars::without;
+use crate::bars::bar_all;
 use crate::chosen::opened;
 use crate::record::{RECORD, write_record};
 use crate::refused::Refused;
 use crate::script::{Call, Calls, Head};
 use cues::answers::Answer;
 use cues::requests::{Lent, Request, perform};
+use grammar::barred::Barred;
 use grammar::blanks::Blanks;
+use grammar::either::Either;
 use grammar::house::House;
 use guide::written::{Form, Written};
 use memory::Memory;
+use packed::base::Base;
 use walk::state::Frame;
 
 // The frames that count.
@@ -35,9 +38,11 @@ fn load<M: Memory>(
     ensures texts { let c = scripted_in call.entry in M.Memory.texts memory.new ≡ held_if_made (may_load c) (M.Memory.texts memory.old) (next M.Memory.block_count (M.Memory.texts memory.old) (handing (Request.Load number) c [])) }
 {
     let Call { head, fields } = call;
-    let (base, mut guide) = opened(head.form, fields.guide, fields.table)?;
+    let (base, form) = opened(head.form, fields.table)?;
+    let mut guide = Written::new(form, fields.guide);
+    let mut chosen = Barred::new(Blanks::new(base, head.blanks != 0));
     let bars = fields.bars.iter().map(|pair| u16::from_be_bytes(*pair));
-    let chosen = without(Blanks::new(base, head.blanks != 0), bars)?;
+    bar_all(&mut chosen, bars)?;
     let count = usize::from(head.frames).min(FRAMES);
     let mut lent = Lent {
         text: fields.text,
@@ -59,10 +64,14 @@ fn room_for(head: Head) -> usize
     }
 }
 
+// The grammar of a load. A call that reads none is lent one of the same type: then the calls stand once in the library.
+type Chosen<'a> = Barred<Blanks<Base<'a>>>;
+
 // Makes one call, with a fetch's buffer. A call that is no load reads no grammar and no guide, and is lent what is at hand.
 fn make<M: Memory>(
     memory: &mut M,
     call: Call<'_>,
+    idle: &Chosen<'_>,
     frames: &mut [Frame; FRAMES],
     buffer: &mut [u8],
 ) -> Result<Answer, Refused>
@@ -76,7 +85,7 @@ fn make<M: Memory>(
     let mut guide = Written::new(Form::Listing, call.fields.guide);
     let mut lent = Lent {
         text: call.fields.text,
-        grammar: &House,
+        grammar: idle,
         guide: &mut guide,
         frames,
         buffer,
@@ -88,6 +97,7 @@ fn make<M: Memory>(
 fn make_into<M: Memory>(
     memory: &mut M,
     call: Call<'_>,
+    idle: &Chosen<'_>,
     frames: &mut [Frame; FRAMES],
     place: &mut [u8],
 )
@@ -96,7 +106,7 @@ fn make_into<M: Memory>(
     ensures texts { M.Memory.texts memory.new ≡ held_after M.Memory.block_count (M.Memory.texts memory.old) (scripted_in call.entry) (drop 80 place.old) }
 {
     let (record, buffer) = place.split_at_mut(RECORD);
-    let answer = make(memory, call, frames, buffer).map_or_else(
+    let answer = make(memory, call, idle, frames, buffer).map_or_else(
         FekhtoviAnswer::from,
         FekhtoviAnswer::from,
     );
@@ -107,6 +117,7 @@ fn make_into<M: Memory>(
 pub(crate) fn replay_on<M: Memory>(memory: &mut M, script: &[u8], answers: &mut [u8]) -> usize
     ensures { Replayed M.Memory.block_count (M.Memory.texts memory.old) script.now answers.old result answers.new }
 {
+    let idle: Chosen<'_> = Barred::new(Blanks::new(Either::First(House), false));
     let mut frames = [Frame::BLANK; FRAMES];
     // Counted: of a slice that shrinks at each turn a proof does not know what was written before.
     let mut written = 0;
@@ -119,6 +130,7 @@ pub(crate) fn replay_on<M: Memory>(memory: &mut M, script: &[u8], answers: &mut 
         make_into(
             memory,
             call,
+            &idle,
             &mut frames,
             &mut answers[written..written + room],
         );
