@@ -1,7 +1,7 @@
 -- The first chunks of a list: lemmas on their number and places.
-use Rattle.std.specs.Prelude.{◌≡◌, ℕ, zero, suc, ◌*◌, ◌≤◌, List, ◌∷◌, length, take, drop, refl}
+use Rattle.std.specs.Prelude.{◌≡◌, ℕ, zero, suc, ◌*◌, ◌<◌, ◌≤◌, List, ◌∷◌, length, take, drop, slice_index_or, refl}
 use Rattle.std.specs.Simd.{first_chunks}
-use Rattle.std.proofs.Common.{sym, ap, ◌∙◌, mul-suc, add_comm, arith}
+use Rattle.std.proofs.Common.{sym, ap, ◌∙◌, mul-zero, mul-suc, add_comm, arith}
 use Rattle.std.proofs.lemmas.List.{drop-drop}
 
 pub length_chunks : {X : Type 0} (w n : ℕ) (xs : List X) → length (first_chunks w n xs) ≡ n
@@ -17,3 +17,9 @@ pub take_chunks : {X : Type 0} (w k n : ℕ) (xs : List X) → k ≤ n → take 
 take_chunks w zero n xs l = refl
 take_chunks w (suc k) zero xs l = absurd (omega arith)
 take_chunks w (suc k) (suc n) xs l = ap (λ ps. take w xs ∷ ps) (take_chunks w k n (drop w xs) (omega arith))
+
+-- the k-th chunk is what stands k widths on
+pub slice_index_or_chunks : {X : Type 0} (w n : ℕ) (xs : List X) (k : ℕ) (d : List X) → k < n → slice_index_or (first_chunks w n xs) k d ≡ take w (drop (w * k) xs)
+slice_index_or_chunks w zero xs k d l = absurd (omega arith)
+slice_index_or_chunks w (suc n) xs zero d l = sym (ap (λ k. take w (drop k xs)) (mul-zero w))
+slice_index_or_chunks w (suc n) xs (suc k) d l = slice_index_or_chunks w n (drop w xs) k d (omega arith) ∙ ap (take w) (drop_chunk w k xs)
