@@ -1,6 +1,7 @@
 -- What is proved of every memory, whatever its blocks hold.
-use Rattle.std.specs.Prelude.{◌≡◌, ℕ, ◌+◌, ◌≤◌, true, List, [], length, is_some, is_ok, Some, None}
-use Rattle.memory.specs.Texts.{Texts, blocks_for, no_texts, holding, without, needs, free, is_number, may_store, may_strike, may_copy, storable, copyable}
+use Rattle.std.specs.Prelude.{◌≡◌, ℕ, ◌+◌, ◌≤◌, true, List, [], length, is_some, is_ok, Some, None, Ok}
+use Rattle.memory.specs.declared.Refusal.TheVariants.{NumberOutside, NotHeld}
+use Rattle.memory.specs.Texts.{Texts, blocks_for, no_texts, holding, without, needs, free, is_number, ask, may_store, may_strike, may_copy_text, may_copy, storable, copyable}
 
 -- nothing needs no block, a whole block's bytes need that block, and one byte more needs another
 abbrev pub NeedsOf0_64And65Bytes : Type 0
@@ -38,3 +39,9 @@ pub record DoneWherePossible (blocks : ℕ) (s : Texts) : Type 0 where
   pub stored : (n : ℕ) (t : List ℕ) → is_ok (may_store blocks s n (length t)) ≡ storable blocks s n t
   pub struck : (n : ℕ) → is_ok (may_strike s n) ≡ is_some (s n)
   pub copied : (n room : ℕ) → is_ok (may_copy s n room) ≡ copyable (s n) room
+
+-- A strike and a copy answer as if they asked in this order: is it a number, is a text held under it, and, of a copy, is there room for
+-- the text? That is proved where only numbers have texts.
+pub record NumberAskedFirst (s : Texts) : Type 0 where
+  pub struck : (n : ℕ) → may_strike s n ≡ ask (is_number n) NumberOutside (ask (is_some (s n)) NotHeld (Ok tt))
+  pub copied : (n room : ℕ) → may_copy s n room ≡ ask (is_number n) NumberOutside (ask (is_some (s n)) NotHeld (may_copy_text n (s n) room))

@@ -1,3 +1,4 @@
 pub mod Texts
 pub mod Blocks
+pub mod Numbered
 pub mod Laws

@@ -4,9 +4,10 @@ ghost use Rattle.std.proofs.Common.{arith};
 ghost use Rattle.std.specs.Option.{option_map, ok_or};
 ghost use Rattle.memory.specs.Texts.{blocks_for, longest_text, no_texts, holding, without, needs, free, is_number};
 ghost use Rattle.memory.specs.Blocks.{all_blocks, texts_in, Noted, Owns, Rest, Counted};
+ghost use Rattle.memory.specs.Numbered.{none_outside};
 
 use crate::number::Number;
-use crate::{BLOCK_BYTES, Memory, Refusal, blocks_for};
+use crate::{BLOCK_BYTES, Memory, NumberedMemory, Refusal, blocks_for};
 
 mod layout;
 
@@ -121,6 +122,10 @@ impl Memory for Blocks {
         self.copy(number, &mut buffer[..length]);
         Ok(length)
     }
+}
+
+impl NumberedMemory for Blocks {
+    ghost numbered = { λ s. none_outside s.blocks s.owners s.lengths s.sized s.unnumbered };
 }
 
 // Texts are held under numbers for texts only.

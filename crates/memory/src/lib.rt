@@ -4,7 +4,7 @@
 ghost use Rattle.std.specs.Prelude.{◌≡◌, ℕ, ◌+◌, ◌≤◌, false, length, is_ok, None, if◌then◌else◌};
 ghost use Rattle.std.specs.Option.{option_map};
 ghost use Rattle.memory.specs.Texts.{Texts, blocks_for, holding, without, needs, free, is_number, refusal_number, may_store, may_strike, may_copy, copied};
-ghost use Rattle.memory.specs.Laws.{NeedsOf0_64And65Bytes, EmptyTextIsNotNone, EmptyMemoryIsAllFree, StoredTextTakesItsBlocks, StruckTextGivesItsBlocksBack, SameTextsSameRoom, DoneWherePossible};
+ghost use Rattle.memory.specs.Laws.{NeedsOf0_64And65Bytes, EmptyTextIsNotNone, EmptyMemoryIsAllFree, StoredTextTakesItsBlocks, StruckTextGivesItsBlocksBack, SameTextsSameRoom, DoneWherePossible, NumberAskedFirst};
 
 pub mod blocks;
 mod number;
@@ -114,6 +114,11 @@ pub trait Memory {
         ensures copy { buffer.new ≡ copied (texts self.now number) buffer.old };
 }
 
+// A memory that shows besides that it holds texts under numbers for texts only. No call needs that, so `Memory` asks it of nobody.
+pub trait NumberedMemory: Memory {
+    ghost numbered: { (x : Self) (n : ℕ) → is_number n ≡ false → Self.texts x n ≡ None };
+}
+
 // What the texts need and what is free are together every block.
 pub fn needs_and_free_are_all<M: Memory>(memory: &M)
     ensures { needs (M.Memory.texts memory.now) + free M.Memory.block_count (M.Memory.texts memory.now) ≡ M.Memory.block_count }
@@ -122,6 +127,11 @@ pub fn needs_and_free_are_all<M: Memory>(memory: &M)
 // No call is refused without need.
 pub fn calls_are_done_where_possible<M: Memory>(memory: &M)
     ensures { DoneWherePossible M.Memory.block_count (M.Memory.texts memory.now) }
+{}
+
+// Where only numbers have texts, a strike and a copy answer as if they asked for the number first.
+pub fn numbers_are_asked_first<M: NumberedMemory>(memory: &M)
+    ensures { NumberAskedFirst (M.Memory.texts memory.now) }
 {}
 
 // No bytes need no block, a block's bytes need one, and a byte more needs two.

@@ -2,6 +2,9 @@
 #![tactic(auto)]
 
 #[cfg(test)]
+mod numbered;
+
+#[cfg(test)]
 mod tests {
     use memory::blocks::Blocks;
     use memory::{Memory, Refusal};
