@@ -1,10 +1,10 @@
 -- What is asked of a call is no more than what has to be asked.
-use Rattle.std.proofs.Common.{◌≡◌, ℕ, Bool, true, false, ◌&&◌, cond, leb, List, length, is_some, is_ok, Some, None, Option, Ok, Err, Result, refl, ap, ◌∙◌}
+use Rattle.std.proofs.Common.{◌≡◌, ℕ, Bool, true, false, ◌&&◌, cond, leb, List, length, is_some, is_ok, Some, None, Option, Ok, Err, Result, refl, ◌∙◌}
 use Rattle.std.proofs.Math.Bool.{and-true}
 use Rattle.memory.specs.declared.Refusal.{Refusal}
 use Rattle.memory.specs.declared.Refusal.TheVariants.{NumberOutside, NotHeld, BufferTooShort}
 use Rattle.memory.specs.Texts.{Texts, is_number, ask, none_held, may_copy_text, copyable}
-use Rattle.memory.specs.Laws.{DoneWherePossible, NumberAskedFirst}
+use Rattle.memory.specs.Laws.{DoneWherePossible}
 
 ask_done : {A : Type 0} (b : Bool) (why : Refusal) (r : Result A Refusal) → is_ok (ask b why r) ≡ (b && is_ok r)
 ask_done true why r = refl
@@ -28,23 +28,4 @@ done blocks s = record {
   stored = λ n t. simp (ask_done, and-true);
   struck = λ n. strike_done n (s n);
   copied = λ n room. copy_done n (s n) room;
-}
-
--- where only numbers have texts, nothing is held under what is none, so it may as well be asked for first
-strike_asked : (b : Bool) (o : Option (List ℕ)) → (b ≡ false → o ≡ None)
-    → cond (is_some o) (Ok tt) (ask {A = Unit} b NumberOutside (Err NotHeld)) ≡ ask b NumberOutside (ask (is_some o) NotHeld (Ok tt))
-strike_asked true None h = refl
-strike_asked true (Some t) h = refl
-strike_asked false o h = rw (h refl) refl
-
-copy_asked : (n : ℕ) (b : Bool) → is_number n ≡ b → (o : Option (List ℕ)) → (b ≡ false → o ≡ None) → (room : ℕ)
-    → may_copy_text n o room ≡ ask b NumberOutside (ask (is_some o) NotHeld (may_copy_text n o room))
-copy_asked n true e None h room = ap (λ b. ask b NumberOutside (Err NotHeld)) e
-copy_asked n true e (Some t) h room = refl
-copy_asked n false e o h room = rw (h refl) (ap (λ b. ask b NumberOutside (Err NotHeld)) e)
-
-pub asked_first : (s : Texts) → ((n : ℕ) → is_number n ≡ false → s n ≡ None) → NumberAskedFirst s
-asked_first s numbered = record {
-  struck = λ n. strike_asked (is_number n) (s n) (numbered n);
-  copied = λ n room. copy_asked n (is_number n) refl (s n) (numbered n) room;
 }

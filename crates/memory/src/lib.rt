@@ -130,7 +130,7 @@ pub fn calls_are_done_where_possible<M: Memory>(memory: &M)
 {}
 
 // Where only numbers have texts, a strike and a copy answer as if they asked for the number first.
-pub fn numbers_are_asked_first<M: NumberedMemory>(memory: &M)
+pub fn number_is_asked_first<M: NumberedMemory>(memory: &M)
     ensures { NumberAskedFirst (M.Memory.texts memory.now) }
 {}
 

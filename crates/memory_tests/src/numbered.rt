@@ -3,12 +3,12 @@ ghost use Rattle.std.specs.Prelude.{◌≡◌, false, is_some, length, None, Ok}
 ghost use Rattle.memory.specs.Texts.{is_number, ask, may_copy_text};
 ghost use Rattle.memory.specs.declared.Refusal.TheVariants.{NumberOutside, NotHeld};
 
-use memory::{NumberedMemory, Refusal, numbers_are_asked_first};
+use memory::{NumberedMemory, Refusal, number_is_asked_first};
 
 fn strike_in_order<M: NumberedMemory>(memory: &mut M, number: u16) -> Result<(), Refusal>
     ensures { result ≡ ask (is_number number) NumberOutside (ask (is_some (M.Memory.texts memory.old number)) NotHeld (Ok tt)) }
 {
-    numbers_are_asked_first(memory);
+    number_is_asked_first(memory);
     memory.strike(number)
 }
 
@@ -19,7 +19,7 @@ fn copy_in_order<M: NumberedMemory>(
 ) -> Result<usize, Refusal>
     ensures { result ≡ ask (is_number number) NumberOutside (ask (is_some (M.Memory.texts memory.now number)) NotHeld (may_copy_text number (M.Memory.texts memory.now number) (length buffer.old))) }
 {
-    numbers_are_asked_first(memory);
+    number_is_asked_first(memory);
     memory.copy_out(number, buffer)
 }
 
